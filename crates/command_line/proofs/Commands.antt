@@ -2,12 +2,12 @@
 -- What clap's clauses state of the program, of its errors and of the subcommand that was entered.
 use Rattle.std.specs.List.{find, list_all, slice_index_or}
 use Rattle.std.specs.Option.{option_map, option_map_or}
-use Rattle.std.specs.Prelude.{Result, Ok, Err, IfErr, IsErrAnd, codes, is_some}
+use Rattle.std.specs.Prelude.{Result, Ok, Err, IfErr, IsErrAnd, IsSome, codes, is_some}
 use Rattle.std.specs.Str.{bytes_eq}
 use Rattle.std.proofs.lemmas.Option.{same_Some}
 use Rattle.std.proofs.lemmas.Slice.Eq.{bytes_eq-Decides}
 use Rattle.std.proofs.Common.{◌≡◌, ◌∙◌, ◌||◌, Bool, cond, true, false, not, refl, sym, subst, ap, ap₂, List, [], ◌∷◌, Option, Some, None}
-use Rattle.std.proofs.Common.{◌⊎◌, inl, inr, true≢false}
+use Rattle.std.proofs.Common.{◌⊎◌, ℕ, inl, inr, true≢false}
 use Rattle.clap.proofs.OnLiterals.{clap_on_literals}
 use Rattle.clap.specs.Faults.{check_fault, entered_fault, level_fault}
 use Rattle.clap.specs.Kinds.{HasKind, IsAmong, Kinds, check_kinds}
@@ -16,11 +16,11 @@ use Rattle.clap.specs.Faults.{fault_of, is_simple_and_free}
 use Rattle.clap.specs.Simple.{subcommand_of, subcommand_rows_of}
 use Rattle.clap.specs.Values.{kind_of}
 use Rattle.clap.specs.declared.error.Error.{Error}
-use Rattle.command_line.specs.Errors.{IsMadeOf, IsRefusedBy}
+use Rattle.command_line.specs.Errors.{IsFromClap, IsRefusedBy}
 use Rattle.command_line.specs.declared.error.LineError.{LineError}
 use Rattle.command_line.specs.declared.error.LineError.TheVariants.{Memory, NotUnicode, Value, Words}
 use Rattle.clap.specs.Takes.{is_given}
-use Rattle.clap.specs.Walk.{Row, Text, answers_to, nothing_held, rows_after, rows_of, walk}
+use Rattle.clap.specs.Walk.{Row, Text, answers_to, first_of, nothing_held, rows_after, rows_of, walk}
 use Rattle.clap.specs.Matches.{found_of, subcommand_name_of}
 use Rattle.clap.specs.declared.parser.matches.ArgMatches.{ArgMatches}
 use Rattle.clap.specs.declared.parser.matches.ArgMatches.TheViews.{out-ArgMatches, out-SubCommand}
@@ -39,100 +39,54 @@ pub simple_and_free : is_simple_and_free program_app ≡ true
 unfolding clap_on_literals program_app pass_app run_app show_app serve_app drive_app
 simple_and_free = refl
 
--- ---- the program as clap builds it, with its subcommands `pass`, `run`, `show`, `serve`, `drive` and `help`
+-- ---- the program as clap builds it
 
-unfoldable built_pass : Shape
-built_pass = slice_index_or (built program_app).subs 0 (new_shape [])
-
-unfoldable built_run : Shape
-built_run = slice_index_or (built program_app).subs 1 (new_shape [])
-
-unfoldable built_show : Shape
-built_show = slice_index_or (built program_app).subs 2 (new_shape [])
-
-unfoldable built_serve : Shape
-built_serve = slice_index_or (built program_app).subs 3 (new_shape [])
-
-unfoldable built_drive : Shape
-built_drive = slice_index_or (built program_app).subs 4 (new_shape [])
-
-unfoldable built_help : Shape
-built_help = slice_index_or (built program_app).subs 5 (new_shape [])
+-- the program's subcommands by their indices: 0 `pass`, 1 `run`, 2 `show`, 3 `serve`, 4 `drive`, 5 `help`
+unfoldable built_sub : ℕ → Shape
+built_sub index = slice_index_or (built program_app).subs index (new_shape [])
 
 top_gives : list_all gives (built program_app).top.rules ≡ true
 unfolding clap_on_literals program_app pass_app run_app show_app serve_app drive_app
 top_gives = refl
 
-pass_gives : list_all gives built_pass.rules ≡ true
-unfolding clap_on_literals program_app pass_app run_app show_app serve_app drive_app built_pass
-pass_gives = refl
+-- the names of the subcommands that clap builds; each of their arguments has a value if it is given
+record AreBuilt : Type 0 where
+  pass : ((built_sub 0).name ≡ codes "pass") × (list_all gives (built_sub 0).rules ≡ true)
+  run : ((built_sub 1).name ≡ codes "run") × (list_all gives (built_sub 1).rules ≡ true)
+  show : ((built_sub 2).name ≡ codes "show") × (list_all gives (built_sub 2).rules ≡ true)
+  serve : (built_sub 3).name ≡ codes "serve"
+  drive : ((built_sub 4).name ≡ codes "drive") × (list_all gives (built_sub 4).rules ≡ true)
 
-run_gives : list_all gives built_run.rules ≡ true
-unfolding clap_on_literals program_app pass_app run_app show_app serve_app drive_app built_run
-run_gives = refl
-
-show_gives : list_all gives built_show.rules ≡ true
-unfolding clap_on_literals program_app pass_app run_app show_app serve_app drive_app built_show
-show_gives = refl
-
-drive_gives : list_all gives built_drive.rules ≡ true
-unfolding clap_on_literals program_app pass_app run_app show_app serve_app drive_app built_drive
-drive_gives = refl
+are_built : AreBuilt
+unfolding clap_on_literals program_app pass_app run_app show_app serve_app drive_app built_sub
+are_built = record { pass = (refl, refl); run = (refl, refl); show = (refl, refl); serve = refl; drive = (refl, refl) }
 
 has_help : (built program_app).top.disable_help_subcommand ≡ false
 unfolding clap_on_literals program_app pass_app run_app show_app serve_app drive_app
 has_help = refl
 
-six_subcommands : (built program_app).subs ≡ built_pass ∷ built_run ∷ built_show ∷ built_serve ∷ built_drive ∷ built_help ∷ []
-unfolding clap_on_literals program_app pass_app run_app show_app serve_app drive_app
-    built_pass built_run built_show built_serve built_drive built_help
+six_subcommands : (built program_app).subs ≡ built_sub 0 ∷ built_sub 1 ∷ built_sub 2 ∷ built_sub 3 ∷ built_sub 4 ∷ built_sub 5 ∷ []
+unfolding clap_on_literals program_app pass_app run_app show_app serve_app drive_app built_sub
 six_subcommands = refl
 
-help_answers : (word : Text) → answers_to word (label_of built_help) ≡ (bytes_eq (codes "help") word || false)
-unfolding clap_on_literals program_app pass_app run_app show_app serve_app drive_app built_help
+help_answers : (word : Text) → answers_to word (label_of (built_sub 5)) ≡ (bytes_eq (codes "help") word || false)
+unfolding clap_on_literals program_app pass_app run_app show_app serve_app drive_app built_sub
 help_answers word = refl
 
-pass_is_named : built_pass.name ≡ codes "pass"
-unfolding clap_on_literals program_app pass_app run_app show_app serve_app drive_app built_pass
-pass_is_named = refl
+-- the fault of a subcommand that requires two paths, of which some may not be given
+abbrev misses_of : (first second : Text) → List Row → Kinds
+misses_of first second rows = check_kinds false false (not (is_given first rows) || (not (is_given second rows) || false))
 
-run_is_named : built_run.name ≡ codes "run"
-unfolding clap_on_literals program_app pass_app run_app show_app serve_app drive_app built_run
-run_is_named = refl
+-- the faults of subcommands without one of their paths
+record MissPaths (rows : List Row) : Type 0 where
+  pass : check_fault (built_sub 0) rows false ≡ misses_of (codes "IN") (codes "OUT") rows
+  run : check_fault (built_sub 1) rows false ≡ misses_of (codes "SCENARIO") (codes "OUTDIR") rows
+  show : check_fault (built_sub 2) rows false ≡ check_kinds false false (not (is_given (codes "TRACE") rows) || false)
+  drive : check_fault (built_sub 4) rows false ≡ misses_of (codes "send") (codes "receive") rows
 
-show_is_named : built_show.name ≡ codes "show"
-unfolding clap_on_literals program_app pass_app run_app show_app serve_app drive_app built_show
-show_is_named = refl
-
-serve_is_named : built_serve.name ≡ codes "serve"
-unfolding clap_on_literals program_app pass_app run_app show_app serve_app drive_app built_serve
-serve_is_named = refl
-
-drive_is_named : built_drive.name ≡ codes "drive"
-unfolding clap_on_literals program_app pass_app run_app show_app serve_app drive_app built_drive
-drive_is_named = refl
-
-pass_wants : (rows : List Row)
-    → check_fault built_pass rows false
-    ≡ check_kinds false false (not (is_given (codes "IN") rows) || (not (is_given (codes "OUT") rows) || false))
-unfolding clap_on_literals program_app pass_app run_app show_app serve_app drive_app built_pass
-pass_wants rows = refl
-
-run_wants : (rows : List Row)
-    → check_fault built_run rows false
-    ≡ check_kinds false false (not (is_given (codes "SCENARIO") rows) || (not (is_given (codes "OUTDIR") rows) || false))
-unfolding clap_on_literals program_app pass_app run_app show_app serve_app drive_app built_run
-run_wants rows = refl
-
-show_wants : (rows : List Row) → check_fault built_show rows false ≡ check_kinds false false (not (is_given (codes "TRACE") rows) || false)
-unfolding clap_on_literals program_app pass_app run_app show_app serve_app drive_app built_show
-show_wants rows = refl
-
-drive_wants : (rows : List Row)
-    → check_fault built_drive rows false
-    ≡ check_kinds false false (not (is_given (codes "send") rows) || (not (is_given (codes "receive") rows) || false))
-unfolding clap_on_literals program_app pass_app run_app show_app serve_app drive_app built_drive
-drive_wants rows = refl
+miss_paths : (rows : List Row) → MissPaths rows
+unfolding clap_on_literals program_app pass_app run_app show_app serve_app drive_app built_sub
+miss_paths rows = record { pass = refl; run = refl; show = refl; drive = refl }
 
 -- ---- the subcommand that was found
 
@@ -196,20 +150,20 @@ first_of_six first second third fourth fifth sixth false false false false false
 first_of_six first second third fourth fifth sixth false false false false false false words name rows e f found = absurd (cc)
 
 entered_other : (a : App) (disabled : Bool) (stop : Option (Text × List Text)) (name : Text) (rows : List Row)
-    → a.subs ≡ built_pass ∷ built_run ∷ built_show ∷ built_serve ∷ built_drive ∷ built_help ∷ []
+    → a.subs ≡ built_sub 0 ∷ built_sub 1 ∷ built_sub 2 ∷ built_sub 3 ∷ built_sub 4 ∷ built_sub 5 ∷ []
     → disabled ≡ false → StopsAtOther disabled stop → entered_fault a stop ≡ [] → entered a stop ≡ Some (name, rows)
-    → (words : List Text) × IsEnteredAmong built_pass built_run built_show built_serve built_drive words name rows
+    → (words : List Text) × IsEnteredAmong (built_sub 0) (built_sub 1) (built_sub 2) (built_sub 3) (built_sub 4) words name rows
 entered_other a disabled None name rows subs enabled other f found = absurd (cc)
 entered_other a disabled (Some p) name rows subs enabled other f found =
     let answers : Shape → Bool = λ s. answers_to p.0 (label_of s) in
     let fault = subst (λ (l : List Shape). option_map_or (λ s. level_fault s [] nothing_held p.1 false []) (find answers l) []
     ≡ []) subs f in
     let met = subst (λ (l : List Shape). option_map (λ s. rows_at s p.1) (find answers l) ≡ Some (name, rows)) subs found in
-    let is_sixth : answers built_help ≡ false = help_answers p.0 ∙ not_second (codes "help") p.0 (other enabled) in (
+    let is_sixth : answers (built_sub 5) ≡ false = help_answers p.0 ∙ not_second (codes "help") p.0 (other enabled) in (
       p.1,
-      first_of_six built_pass built_run built_show built_serve built_drive built_help
-          (answers built_pass) (answers built_run) (answers built_show) (answers built_serve) (answers built_drive)
-          (answers built_help) p.1 name rows is_sixth fault met,
+      first_of_six (built_sub 0) (built_sub 1) (built_sub 2) (built_sub 3) (built_sub 4) (built_sub 5)
+          (answers (built_sub 0)) (answers (built_sub 1)) (answers (built_sub 2)) (answers (built_sub 3)) (answers (built_sub 4))
+          (answers (built_sub 5)) p.1 name rows is_sixth fault met,
     )
 
 both_given : (input output : Bool) → (not input || (not output || false)) ≡ false → (input ≡ true) × (output ≡ true)
@@ -221,58 +175,25 @@ one_given : (trace : Bool) → (not trace || false) ≡ false → trace ≡ true
 one_given true e = refl
 one_given false e = absurd (true≢false e)
 
-files_there : (rows : List Row) → EachHasValue rows → check_fault built_pass rows false ≡ [] → HasFiles rows
-files_there rows has f =
-    let given = both_given (is_given (codes "IN") rows) (is_given (codes "OUT") rows)
-    (nothing_missing false false _ (sym (pass_wants rows) ∙ f)) in
-    (given_has_first (codes "IN") rows has given.0, given_has_first (codes "OUT") rows has given.1)
+two_there : (s : Shape) (first second : Text) (rows : List Row) → check_fault s rows false ≡ misses_of first second rows
+    → EachHasValue rows → check_fault s rows false ≡ [] → IsSome (first_of first rows) × IsSome (first_of second rows)
+two_there s first second rows misses has f =
+    let given = both_given (is_given first rows) (is_given second rows) (nothing_missing false false _ (sym misses ∙ f)) in
+    (given_has_first first rows has given.0, given_has_first second rows has given.1)
 
-scenario_there : (rows : List Row) → EachHasValue rows → check_fault built_run rows false ≡ [] → HasScenario rows
-scenario_there rows has f =
-    let given = both_given (is_given (codes "SCENARIO") rows) (is_given (codes "OUTDIR") rows)
-    (nothing_missing false false _ (sym (run_wants rows) ∙ f)) in
-    (given_has_first (codes "SCENARIO") rows has given.0, given_has_first (codes "OUTDIR") rows has given.1)
-
-trace_there : (rows : List Row) → EachHasValue rows → check_fault built_show rows false ≡ [] → HasTrace rows
+trace_there : (rows : List Row) → EachHasValue rows → check_fault (built_sub 2) rows false ≡ [] → HasTrace rows
 trace_there rows has f = given_has_first (codes "TRACE") rows has
-    (one_given (is_given (codes "TRACE") rows) (nothing_missing false false _ (sym (show_wants rows) ∙ f)))
+    (one_given (is_given (codes "TRACE") rows) (nothing_missing false false _ (sym (miss_paths rows).show ∙ f)))
 
-traces_there : (rows : List Row) → EachHasValue rows → check_fault built_drive rows false ≡ [] → HasTraces rows
-traces_there rows has f =
-    let given = both_given (is_given (codes "send") rows) (is_given (codes "receive") rows)
-    (nothing_missing false false _ (sym (drive_wants rows) ∙ f)) in
-    (given_has_first (codes "send") rows has given.0, given_has_first (codes "receive") rows has given.1)
-
-pass_taken : (words : List Text) (name : Text) (rows : List Row) → IsEntered built_pass words name rows → IsSubcommand name rows
-pass_taken words name rows it =
-    let each = level_rows built_pass pass_gives [] words false [] it.faultless in
-    let files = files_there (rows_after built_pass.rules [] words) each
-    (level_checks built_pass pass_gives [] words false [] it.faultless) in
-    inl (it.named ∙ pass_is_named, subst HasFiles (sym it.rows_are) files)
-
-run_taken : (words : List Text) (name : Text) (rows : List Row) → IsEntered built_run words name rows → IsSubcommand name rows
-run_taken words name rows it =
-    let each = level_rows built_run run_gives [] words false [] it.faultless in
-    let files = scenario_there (rows_after built_run.rules [] words) each
-    (level_checks built_run run_gives [] words false [] it.faultless) in
-    inr (inl (it.named ∙ run_is_named, subst HasScenario (sym it.rows_are) files))
-
-show_taken : (words : List Text) (name : Text) (rows : List Row) → IsEntered built_show words name rows → IsSubcommand name rows
-show_taken words name rows it =
-    let each = level_rows built_show show_gives [] words false [] it.faultless in
-    let trace = trace_there (rows_after built_show.rules [] words) each
-    (level_checks built_show show_gives [] words false [] it.faultless) in
-    inr (inr (inl (it.named ∙ show_is_named, subst HasTrace (sym it.rows_are) trace)))
-
-serve_taken : (words : List Text) (name : Text) (rows : List Row) → IsEntered built_serve words name rows → IsSubcommand name rows
-serve_taken words name rows it = inr (inr (inr (inl (it.named ∙ serve_is_named))))
-
-drive_taken : (words : List Text) (name : Text) (rows : List Row) → IsEntered built_drive words name rows → IsSubcommand name rows
-drive_taken words name rows it =
-    let each = level_rows built_drive drive_gives [] words false [] it.faultless in
-    let traces = traces_there (rows_after built_drive.rules [] words) each
-    (level_checks built_drive drive_gives [] words false [] it.faultless) in
-    inr (inr (inr (inr (it.named ∙ drive_is_named, subst HasTraces (sym it.rows_are) traces))))
+-- the subcommand `own` was entered, and the paths that it requires are given
+is_own : (s : Shape) (own : Text) (Has : List Row → Type 0) (words : List Text) (name : Text) (rows : List Row)
+    → (s.name ≡ own) × (list_all gives s.rules ≡ true)
+    → ((there : List Row) → EachHasValue there → check_fault s there false ≡ [] → Has there)
+    → IsEntered s words name rows → (name ≡ own) × Has rows
+is_own s own Has words name rows is there it =
+    let each = level_rows s is.1 [] words false [] it.faultless in
+    let has = there (rows_after s.rules [] words) each (level_checks s is.1 [] words false [] it.faultless) in
+    (it.named ∙ is.0, subst Has (sym it.rows_are) has)
 
 pub taken : (words : List Text) (name : Text) (rows : List Row) → refusals words ≡ [] → found_in words ≡ Some (name, rows)
     → IsSubcommand name rows
@@ -285,12 +206,18 @@ taken words name rows f found =
     let good = level_walk a.top top_gives (names_of a) rest (is_some (entered a stop)) (entered_fault a stop) f in
     let it = entered_other a a.top.disable_help_subcommand stop name rows six_subcommands has_help good.1 below found in
     elim it.1 [
-      | inl pass ↦ pass_taken it.0 name rows pass
+      | inl pass ↦ inl (is_own (built_sub 0) (codes "pass") HasFiles it.0 name rows are_built.pass
+          (λ there. two_there (built_sub 0) (codes "IN") (codes "OUT") there (miss_paths there).pass) pass)
       | inr other ↦ elim other [
-        | inl run ↦ run_taken it.0 name rows run
+        | inl run ↦ inr (inl (is_own (built_sub 1) (codes "run") HasScenario it.0 name rows are_built.run
+            (λ there. two_there (built_sub 1) (codes "SCENARIO") (codes "OUTDIR") there (miss_paths there).run) run))
         | inr later ↦ elim later [
-          | inl show ↦ show_taken it.0 name rows show
-          | inr last ↦ elim last [ inl serve ↦ serve_taken it.0 name rows serve | inr drive ↦ drive_taken it.0 name rows drive ]
+          | inl show ↦ inr (inr (inl (is_own (built_sub 2) (codes "show") HasTrace it.0 name rows are_built.show trace_there show)))
+          | inr last ↦ elim last [
+            | inl serve ↦ inr (inr (inr (inl (serve.named ∙ are_built.serve))))
+            | inr drive ↦ inr (inr (inr (inr (is_own (built_sub 4) (codes "drive") HasTraces it.0 name rows are_built.drive
+                (λ there. two_there (built_sub 4) (codes "send") (codes "receive") there (miss_paths there).drive) drive))))
+          ]
         ]
       ]
     ]
@@ -309,7 +236,7 @@ pub found_is : (a : App) (words : List Text) → a ≡ program_app → subcomman
 unfolding found_in
 found_is a words e = ap (λ (x : App). subcommand_of x words) e
 
-pub refused_by : (kinds : Kinds) (error : Error) (made : LineError) → HasKind kinds error → IsMadeOf error made → IsRefusedBy kinds made
+pub refused_by : (kinds : Kinds) (error : Error) (made : LineError) → HasKind kinds error → IsFromClap error made → IsRefusedBy kinds made
 refused_by kinds error Memory h m = tt
 refused_by kinds error (Value value) h m = absurd m
 refused_by kinds error NotUnicode h m = absurd m
@@ -320,7 +247,7 @@ refused_by kinds error (Words same) h m =
     ]
 
 pub refused_result : {T : Type 0} (kinds : Kinds) (error : Error) (r : Result T LineError) → HasKind kinds error
-    → IsErrAnd r (IsMadeOf error)
+    → IsErrAnd r (IsFromClap error)
     → IfErr r (IsRefusedBy kinds)
 refused_result kinds error (Ok x) h m = tt
 refused_result kinds error (Err made) h m = refused_by kinds error made h m

@@ -10,11 +10,11 @@ use Rattle.command_line.specs.declared.error.LineError.{LineError}
 use Rattle.command_line.specs.declared.error.LineError.TheVariants.{Words, Value, NotUnicode, Memory}
 
 -- `Memory` is made from clap's error that memory was refused, and `Words` from any other error of clap
-abbrev pub IsMadeOf : Error → LineError → Type 0
-IsMadeOf error Memory = kind_of error ≡ OutOfMemory
-IsMadeOf error (Words same) = (same ≡ error) × (kind_of error ≢ OutOfMemory)
-IsMadeOf error (Value value) = ⊥
-IsMadeOf error NotUnicode = ⊥
+abbrev pub IsFromClap : Error → LineError → Type 0
+IsFromClap error Memory = kind_of error ≡ OutOfMemory
+IsFromClap error (Words same) = (same ≡ error) × (kind_of error ≢ OutOfMemory)
+IsFromClap error (Value value) = ⊥
+IsFromClap error NotUnicode = ⊥
 
 -- if clap refused the words, clap's error has this property
 abbrev pub IfWords : LineError → (Error → Type 0) → Type 0

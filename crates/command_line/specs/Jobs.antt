@@ -7,7 +7,7 @@ use Rattle.clap.specs.Words.{Row, Text, first_of, found_of, rows_of}
 use Rattle.clap.specs.declared.parser.matches.ArgMatches.{ArgMatches}
 use Rattle.command_line.specs.Shape.{found_in, refusals}
 use Rattle.text.specs.Addresses.{SpellsAddress}
-use Rattle.command_line.specs.Spelling.{IsGroup, IsKilobytes, IsLink, SpellsCount, SpellsDecimal, SpellsGroup}
+use Rattle.command_line.specs.Spelling.{IsGroupAddress, IsKilobytes, IsLink, SpellsCount, SpellsDecimal, SpellsGroup}
 use Rattle.command_line.specs.Spelling.{SpellsKilobytes, SpellsLink, SpellsRingSize, SpellsVlan, SpellsWord}
 use Rattle.command_line.specs.declared.error.InvalidValue.{InvalidValue}
 use Rattle.command_line.specs.declared.job.DriveJob.{DriveJob}
@@ -111,7 +111,7 @@ IsJobOf found (Drive job) = (found.0 ≡ codes "drive") × IsDriveJobOf found.1 
 
 -- bounds of a filter, whatever the words are: the group bit of a group is 1, and a VLAN identifier is at most 4095
 abbrev pub IsWithinBounds : PassFilter → Type 0
-IsWithinBounds filter = IfSome filter.group IsGroup × IfSome filter.vlan (λ n. n ≤ 4095)
+IsWithinBounds filter = IfSome filter.group IsGroupAddress × IfSome filter.vlan (λ n. n ≤ 4095)
 
 -- Bounds of a `serve` for any words: the receive packet buffer has an allowed size. The link needs 1 to 65,535 ticks, or is never up.
 abbrev pub IsServable : ServeJob → Type 0

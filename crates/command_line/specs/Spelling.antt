@@ -10,11 +10,11 @@ use Rattle.command_line.specs.declared.job.ValueOption.{ValueOption}
 use Rattle.command_line.specs.declared.job.ValueOption.TheVariants as options
 
 -- a group address has the lowest bit of its first byte set (IEEE 802.3 3.2.3)
-abbrev pub IsGroup : List ℕ → Type 0
-IsGroup address = IsBitSet (slice_index address 0) 0
+abbrev pub IsGroupAddress : List ℕ → Type 0
+IsGroupAddress address = IsBitSet (slice_index address 0) 0
 
 abbrev pub SpellsGroup : Text → List ℕ → Type 0
-SpellsGroup text address = SpellsAddress text address × IsGroup address
+SpellsGroup text address = SpellsAddress text address × IsGroupAddress address
 
 -- a number of 64 bits, in decimal digits only
 abbrev pub SpellsDecimal : Text → ℕ → Type 0

@@ -1,9 +1,11 @@
 //! The jobs of `serve` and `drive`, from clap's matches for their options.
 ghost use Rattle.std.specs.Prelude.{IfErr, IfOk, codes};
 ghost use Rattle.clap.specs.Words.{found_of, rows_of};
-ghost use Rattle.command_line.specs.Jobs.{HasBounds, HasTraces, IsImageOf, IsJobOf, IsMisspelledOf, IsValueOr, text_in};
+ghost use Rattle.command_line.specs.Jobs.{HasBounds, HasTraces, IsImageOf, IsJobOf, IsMisspelledAs, IsMisspelledOf};
+ghost use Rattle.command_line.specs.Jobs.{IsValueOr, text_in};
 ghost use Rattle.command_line.specs.Spelling.{SpellsLink};
 ghost use Rattle.command_line.specs.declared.job.ServeLink.TheVariants.{After};
+ghost use Rattle.command_line.specs.declared.job.ValueOption.TheVariants.{Link};
 
 use crate::spelling::link_of;
 use crate::values::{address, number, number_or, path, text};
@@ -26,13 +28,13 @@ fn image<'a>(matches: &ArgMatches<'a>) -> Result<ServeImage<'a>, ValueOption>
     ensures value { IfOk result (IsImageOf (rows_of (found_of matches.now))) }
     ensures refused { IfErr result (IsMisspelledOf (codes "serve") (rows_of (found_of matches.now))) }
 {
-    let Some(path) = text(matches, "image") else {
-        let address = address(matches, ValueOption::Address)?;
-        return Ok(ServeImage::Address(address.unwrap_or(ADDRESS)));
+    let Some(file) = text(matches, "image") else {
+        let given = address(matches, ValueOption::Address)?;
+        return Ok(ServeImage::Address(given.unwrap_or(ADDRESS)));
     };
     match text(matches, "address") {
         Some(_) => Err(ValueOption::Image),
-        None => Ok(ServeImage::File(path)),
+        None => Ok(ServeImage::File(file)),
     }
 }
 
@@ -40,12 +42,12 @@ fn image<'a>(matches: &ArgMatches<'a>) -> Result<ServeImage<'a>, ValueOption>
 /// Returns one tick if `--link` isn't given. Fails if the text of `--link` doesn't have the option's form.
 fn link(matches: &ArgMatches<'_>) -> Result<ServeLink, ValueOption>
     ensures value { IfOk result (IsValueOr SpellsLink (After 1) (text_in matches.now (codes "link"))) }
-    ensures refused { IfErr result (IsMisspelledOf (codes "serve") (rows_of (found_of matches.now))) }
+    ensures refused { IfErr result (IsMisspelledAs Link (rows_of (found_of matches.now))) }
 {
-    let Some(text) = text(matches, "link") else {
+    let Some(spelled) = text(matches, "link") else {
         return Ok(ServeLink::After(1));
     };
-    match link_of(text) {
+    match link_of(spelled) {
         Some(link) => Ok(link),
         None => Err(ValueOption::Link),
     }

@@ -1,6 +1,6 @@
 //! Why words were refused, with the text for the user.
 ghost use Rattle.std.specs.Prelude.{◌≡◌};
-ghost use Rattle.command_line.specs.Errors.{IsMadeOf};
+ghost use Rattle.command_line.specs.Errors.{IsFromClap};
 ghost use Rattle.command_line.specs.declared.error.LineError.TheVariants.{Memory};
 
 use crate::ValueOption;
@@ -42,7 +42,7 @@ pub struct InvalidValue<'a> {
 }
 
 impl<'a> From<clap::Error> for LineError<'a> {
-    ghost from_gives = { IsMadeOf };
+    ghost from_gives = { IsFromClap };
 
     fn from(error: clap::Error) -> LineError<'a> {
         match error.kind() {

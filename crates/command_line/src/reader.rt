@@ -9,9 +9,9 @@ ghost use Rattle.command_line.specs.declared.error.LineError.TheVariants.{NotUni
 
 use crate::adapter_jobs::{drive_job, serve_job};
 use crate::command::{SUBCOMMANDS, program_with};
-use crate::trace_jobs::{pass_job, run_job, show_job};
-use crate::values::invalid;
-use crate::{Job, LineError, ValueOption};
+use crate::trace_jobs::{pass_job, run_job};
+use crate::values::{invalid, path};
+use crate::{Job, LineError, ShowJob, ValueOption};
 use clap::ArgMatches;
 use std::alloc::Global;
 use std::convert::AsStr;
@@ -26,7 +26,9 @@ fn job_of<'a>(name: &str, matches: &ArgMatches<'a>) -> Result<Job<'a>, ValueOpti
     match name {
         "pass" => pass_job(matches),
         "run" => Ok(Job::Run(run_job(matches))),
-        "show" => Ok(Job::Show(show_job(matches))),
+        "show" => Ok(Job::Show(ShowJob {
+            trace: path(matches, "TRACE"),
+        })),
         "serve" => serve_job(matches),
         "drive" => drive_job(matches),
         _ => unreachable!(),

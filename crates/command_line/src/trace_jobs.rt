@@ -1,12 +1,12 @@
-//! The jobs of `pass`, `run` and `show`, from clap's matches for their options and files.
+//! The jobs of `pass` and `run`, from clap's matches for their options and files.
 ghost use Rattle.std.specs.Prelude.{IfErr, IfOk, codes};
 ghost use Rattle.clap.specs.Words.{found_of, rows_of};
-ghost use Rattle.command_line.specs.Jobs.{HasBounds, HasFiles, HasScenario, HasTrace, IsJobOf, IsMisspelledOf};
-ghost use Rattle.command_line.specs.Jobs.{IsPassFilterOf, IsRunJobOf, IsShowJobOf, IsValueOf, IsWithinBounds, text_in};
+ghost use Rattle.command_line.specs.Jobs.{HasBounds, HasFiles, HasScenario, IsJobOf, IsMisspelledOf};
+ghost use Rattle.command_line.specs.Jobs.{IsPassFilterOf, IsRunJobOf, IsValueOf, IsWithinBounds, text_in};
 ghost use Rattle.command_line.specs.Spelling.{SpellsVlan};
 
 use crate::values::{address, flag, number, path, text};
-use crate::{Job, PassFilter, PassJob, RunJob, ShowJob, ValueOption};
+use crate::{Job, PassFilter, PassJob, RunJob, ValueOption};
 use clap::ArgMatches;
 
 /// Returns the VLAN identifier of `--vlan`, or `None` if `--vlan` isn't given. Fails if the text of `--vlan` isn't a
@@ -62,15 +62,5 @@ pub(crate) fn run_job<'a>(matches: &ArgMatches<'a>) -> RunJob<'a>
         wires: flag(matches, "wires"),
         nanos: flag(matches, "nanos"),
         events: text(matches, "events"),
-    }
-}
-
-/// Returns the job of a `show` with these matches, which contain the path of the trace.
-pub(crate) fn show_job<'a>(matches: &ArgMatches<'a>) -> ShowJob<'a>
-    requires { HasTrace (rows_of (found_of matches.now)) }
-    ensures { IsShowJobOf (rows_of (found_of matches.now)) result }
-{
-    ShowJob {
-        trace: path(matches, "TRACE"),
     }
 }

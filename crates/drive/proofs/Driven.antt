@@ -12,9 +12,9 @@ use Rattle.packet_socket.specs.HostState.{HostState}
 use Rattle.pcap_trace.specs.Format.{file_header, written}
 use Rattle.pcap_trace.specs.declared.unit.Unit.TheVariants.{Micros}
 use Rattle.pcap_trace.proofs.Flushed.{flushed, header_waits}
-use Rattle.drive.specs.Drives.{Drives, counts_of}
+use Rattle.drive.specs.Drives.{Drives, layout_counts}
 use Rattle.drive.specs.Exchanging.{ExchangeMoment, Exchanges, SendsFront, exchange_at, host_moment}
-use Rattle.drive.specs.Numbering.{numbered, packets_of}
+use Rattle.drive.specs.Numbering.{timed_by_number, packets_of}
 use Rattle.drive.specs.declared.counts.DriveCounts.{DriveCounts}
 use Rattle.drive.specs.declared.counts.DriveRings.{DriveRings}
 use Rattle.drive.proofs.Numbers.{number_after-count}
@@ -23,9 +23,9 @@ use Rattle.drive.proofs.SentFrames.{sends-then}
 -- The header waits first, then the packets are written, and then the bytes that wait are written.
 trace-of : (before mid after : Option (List ℕ)) (header waiting : List ℕ) (received : List (List ℕ)) → header ≡ file_header Micros
     → Appends (append_known before header) (append_known mid waiting) (packets_of 0 received) → Appends mid after waiting
-    → Appends before after (written Micros (numbered 0 received))
+    → Appends before after (written Micros (timed_by_number 0 received))
 trace-of before mid after header waiting received is packets flush =
-    flushed before mid after waiting (written Micros (numbered 0 received))
+    flushed before mid after waiting (written Micros (timed_by_number 0 received))
     (subst (λ (all : List ℕ). Appends before (append_known mid waiting) all)
     (ap (λ (front : List ℕ). front ++ packets_of 0 received) (append-nil (file_header Micros)))
     (Appends-trans before (append_known before header) (append_known mid waiting) (written Micros []) (packets_of 0 received)
@@ -35,7 +35,7 @@ trace-of before mid after header waiting received is packets flush =
 pub drives-of : {B : Type 0} (bus : Ghosts B) → Composes bus.happened bus.lent_stays → (rings : DriveRings) (frames : List (List ℕ))
     (counts : DriveCounts)
     (before taken after : Option (List ℕ)) (header waiting : List ℕ) (old up end : B) (host last : HostState) (mid : ExchangeMoment B)
-    → Keeps bus old up → (bus.honest old → HostReady host (bus.world up)) → host.driver.layout ≡ counts_of rings
+    → Keeps bus old up → (bus.honest old → HostReady host (bus.world up)) → host.driver.layout ≡ layout_counts rings
     → header ≡ file_header Micros
     → SendsFront bus frames counts.sent counts.illegal (exchange_at up host (append_known before header) 0) mid
     → Exchanges bus [] mid (exchange_at end last (append_known taken waiting) counts.received)

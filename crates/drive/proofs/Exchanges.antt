@@ -29,7 +29,7 @@ use Rattle.packet_socket.proofs.Intervals.{host-happens, host-join}
 use Rattle.pcap_trace.specs.Format.{packet_of}
 use Rattle.pcap_trace.specs.declared.unit.Unit.TheVariants.{Micros}
 use Rattle.drive.specs.Exchanging.{ExchangeMoment, Exchanges, HostFlows, exchange_at, accepted_of, given_of, host_moment}
-use Rattle.drive.specs.Numbering.{next_number, packets_of}
+use Rattle.drive.specs.Numbering.{next_frame_number, packets_of}
 use Rattle.drive.proofs.Numbers.{number_after-append, packets_of-append}
 
 still-ready : {B : Type 0} (bus : Ghosts B) (accepted received : List (List ℕ)) (old new : HostMoment B)
@@ -175,7 +175,7 @@ pub exchange-receives : {B : Type 0} (bus : Ghosts B) → Composes bus.happened 
     → Keeps bus old.bus new.bus → new.host.driver.layout ≡ old.host.driver.layout
     → CallsOver bus (given_by 0 (Ok (take size into))) [] old new (RecvEffect 0 (Ok (take size into)))
     → Appends text text' (packet_of Micros (record { time = number; frame = take size into }))
-    → Exchanges bus [] (exchange_at old.bus old.host text number) (exchange_at new.bus new.host text' (next_number number))
+    → Exchanges bus [] (exchange_at old.bus old.host text number) (exchange_at new.bus new.host text' (next_frame_number number))
 exchange-receives bus composes old new size into text text' number keeps layout receives written = record {
   keeps = keeps;
   layout = layout;
@@ -209,3 +209,36 @@ accepted-is (Ok u) frame short long =
 accepted-is (Err TooShort) frame short long = rw (too-short frame (short.0 refl)) refl
 accepted-is (Err TooLong) frame short long = rw (too-long frame (long.0 refl)) refl
 accepted-is (Err RingFull) frame short long = refl
+
+-- A call of `send` for a frame that the driver accepted or rejected (`done`), or that the full ring left, is an interval of the exchange.
+pub exchange-hands : {B : Type 0} (bus : Ghosts B) → Composes bus.happened bus.lent_stays → (old new : HostMoment B) (frame : List ℕ)
+    (result : SendAnswer) (done : Bool) (text : Option (List ℕ)) (number : ℕ)
+    → Keeps bus old.bus new.bus → new.host.driver.layout ≡ old.host.driver.layout
+    → (result ≡ Err TooShort ↔ (length frame < shortest_sent)) → (result ≡ Err TooLong ↔ (longest_frame < length frame))
+    → CallsUp bus [] (accepted_by result frame) old new (SendEffect frame result) → is_done result ≡ done
+    → Exchanges bus (if done then accepted_of frame else []) (exchange_at old.bus old.host text number)
+    (exchange_at new.bus new.host text number)
+exchange-hands bus composes old new frame result done text number keeps layout short long sends is =
+    subst (λ (accepted : List (List ℕ)). Exchanges bus accepted (exchange_at old.bus old.host text number)
+    (exchange_at new.bus new.host text number))
+    (accepted-is result frame short long ∙ ap (λ (done : Bool). if done then accepted_of frame else []) is)
+    (exchange-sends bus composes old new frame result text number keeps layout sends)
+
+-- Since a loop began (`start`), no frame was sent, and the sink, which had failed `before` times, didn't fail. The memory is large enough.
+pub record GoesOn {B : Type 0} (bus : Ghosts B) (start now : ExchangeMoment B) (before failed : ℕ) : Type 0 where
+  pub memory : size_of now.host.driver.layout ≤ bus.extent now.bus
+  pub failures : failed ≡ before
+  pub exchanges : Exchanges bus [] start now
+
+pub goes-here : {B : Type 0} (bus : Ghosts B) → Composes bus.happened bus.lent_stays → (now : ExchangeMoment B) (failed : ℕ)
+    → size_of now.host.driver.layout ≤ bus.extent now.bus → GoesOn bus now now failed failed
+goes-here bus composes now failed memory = record { memory = memory; failures = refl; exchanges = exchanges-here bus composes now }
+
+pub goes-on : {B : Type 0} {bus : Ghosts B} {start now next : ExchangeMoment B} {before failed more : ℕ}
+    → Composes bus.happened bus.lent_stays → GoesOn bus start now before failed → Exchanges bus [] now next → more ≡ failed
+    → GoesOn bus start next before more
+goes-on {bus} {start} {now} {next} composes so_far one none = record {
+  memory = still-fits bus [] now next one so_far.memory;
+  failures = none ∙ so_far.failures;
+  exchanges = exchanges-on bus composes start now next [] [] so_far.exchanges one;
+}

@@ -8,13 +8,13 @@ use Rattle.packet_socket.specs.HostCalls.{HostMoment, IsReadyHost}
 use Rattle.pcap_trace.specs.Format.{written}
 use Rattle.pcap_trace.specs.declared.unit.Unit.TheVariants.{Micros}
 use Rattle.drive.specs.Exchanging.{HostFlows, accepted_of_all, is_illegal, saturated}
-use Rattle.drive.specs.Numbering.{numbered}
+use Rattle.drive.specs.Numbering.{timed_by_number}
 use Rattle.drive.specs.declared.counts.DriveCounts.{DriveCounts}
 use Rattle.drive.specs.declared.counts.DriveRings.{DriveRings}
 
 -- the numbers of descriptors and buffers
-abbrev pub counts_of : DriveRings → Counts
-counts_of rings = record { rx = rings.rx; tx = rings.tx; buffers = rings.buffers }
+abbrev pub layout_counts : DriveRings → Counts
+layout_counts rings = record { rx = rings.rx; tx = rings.tx; buffers = rings.buffers }
 
 -- An adapter was initialized with these rings. Then the driver accepted the frames `accepted`, and the socket returned the frames
 -- `received`, over a bus that obeys the bus law.
@@ -22,7 +22,7 @@ pub record DrivesLawfully {B : Type 0} (bus : Ghosts B) (rings : DriveRings) (ac
   -- the moment after the initialization
   pub up : HostMoment B
   pub ready : IsReadyHost bus true up
-  pub layout : up.host.driver.layout ≡ counts_of rings
+  pub layout : up.host.driver.layout ≡ layout_counts rings
   -- the moment at the end
   pub end : HostMoment B
   pub end_is : end.bus ≡ new
@@ -42,5 +42,5 @@ pub record Drives {B : Type 0} (bus : Ghosts B) (rings : DriveRings) (frames : L
   pub illegal_is : counts.illegal ≡ saturated (count_by is_illegal handed)
   pub received : List (List ℕ)
   pub received_is : counts.received ≡ saturated (length received)
-  pub trace : Appends before after (written Micros (numbered 0 received))
+  pub trace : Appends before after (written Micros (timed_by_number 0 received))
   pub lawfully : bus.honest old → DrivesLawfully bus rings (accepted_of_all handed) received new

@@ -1,6 +1,6 @@
 -- The frames that a host and an adapter exchange (our choice).
 use Rattle.std.specs.Prelude.{◌≡◌, ◌++◌, ◌∷◌, ◌-◌, ◌^◌, [], ℕ, Bool, List, Option, count_by, map, min, not, true, if◌then◌else◌}
-use Rattle.std.specs.Io.KnownBytes.{Appends}
+use Rattle.std.specs.Io.KnownBytes.{Appends, append_known}
 use Rattle.descriptors.specs.Frames.{is_sendable, padded}
 use Rattle.bus.specs.declared.bus.Bus.{Ghosts}
 use Rattle.bus.specs.Keeping.{Keeps}
@@ -8,6 +8,7 @@ use Rattle.bus.specs.Pasts.{Past}
 use Rattle.packet_socket.specs.HostCalls.{Given, HostFlowsTo, HostMoment, IsReadyHost, host_did, in_world}
 use Rattle.packet_socket.specs.HostState.{HostState}
 use Rattle.drive.specs.Numbering.{number_after, packets_of}
+use Rattle.drive.specs.declared.exchange.Exchange.{Exchange}
 
 -- Frames to be sent.
 
@@ -56,6 +57,10 @@ pub record ExchangeMoment (B : Type 0) : Type 0 where
 -- the moment of an exchange with these parts
 abbrev pub exchange_at : {B : Type 0} → B → HostState → Option (List ℕ) → ℕ → ExchangeMoment B
 exchange_at bus host text number = record { bus = bus; host = host; text = text; number = number }
+
+-- the moment of an exchange on this bus, with a sink that has taken these bytes, if it knows its bytes
+abbrev pub moment_of : {B : Type 0} → B → Exchange → Option (List ℕ) → ExchangeMoment B
+moment_of bus exchange taken = exchange_at bus exchange.host (append_known taken exchange.writer) exchange.received
 
 -- the host on its bus, at a moment of an exchange
 abbrev pub host_moment : {B : Type 0} → ExchangeMoment B → HostMoment B

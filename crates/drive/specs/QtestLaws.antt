@@ -1,12 +1,12 @@
 -- Laws of `IsSameBus` and `AsksAll`: each holds of no access, and of two consecutive intervals joined if it holds of both. What `Asks`
--- states of one access implies what `AsksAll` and `StaysWhole` state.
+-- states of one access implies what `AsksAll` and `KeepsProperties` state.
 use Rattle.std.proofs.Common.{◌++◌, ◌∷◌, [], ℕ, refl, sym, subst, ◌∙◌}
 use Rattle.std.specs.Io.KnownBytes.{Appends}
 use Rattle.std.proofs.KnownBytes.{Appends-nil, Appends-trans}
 use Rattle.std.proofs.lemmas.List.{append-nil}
 use Rattle.std.proofs.lemmas.List.Concat.{flat_map-append}
 use Rattle.bus.specs.declared.event.Access.{Access}
-use Rattle.bus.specs.BusMembers.{StaysWhole}
+use Rattle.bus.specs.BusMembers.{KeepsProperties}
 use Rattle.drive.specs.QtestState.{Asks, AsksAll, IsSameBus, QtestState, is_never, memory_size}
 use Rattle.drive.specs.QtestRequests.{request_of, requests_of}
 
@@ -41,6 +41,6 @@ asks_one access a b one = record {
   asked = λ none. subst (Appends a.written b.written) (sym (append-nil (request_of a.registers access))) (one.asked none);
 }
 
--- One access preserves the properties of the bus that `StaysWhole` states.
-pub keeps_one : (access : Access) (a b : QtestState) → Asks access a b → StaysWhole memory_size AsksAll is_never is_never a b
+-- One access preserves the properties of the bus that `KeepsProperties` states.
+pub keeps_one : (access : Access) (a b : QtestState) → Asks access a b → KeepsProperties memory_size AsksAll is_never is_never a b
 keeps_one access a b one = record { extent = one.same.memory; lent_stays = asks_one access a b one; honest = λ is. is; lively = λ is. is }

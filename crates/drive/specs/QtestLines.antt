@@ -13,8 +13,8 @@ is_report line =
     begins line (codes "frame ") || begins line (codes "arrived ") || begins line (codes "fault ") || begins line (codes "#")
 
 -- the kind of a line: an `IRQ` line with the level that it reports, a report (`is_report`), or else an answer
-abbrev pub kind_of : List ℕ → Line
-kind_of line =
+abbrev pub qtest_line_kind : List ℕ → Line
+qtest_line_kind line =
     if begins line (codes "IRQ raise ") then Interrupt true
     else if begins line (codes "IRQ lower ") then Interrupt false
     else if is_report line then Report else Answer

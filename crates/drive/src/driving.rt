@@ -1,12 +1,10 @@
 // A drive: initializes an adapter, sends the frames of a list, and receives frames.
 
-ghost use Rattle.std.specs.Prelude.{◌≡◌, ◌<◌, ◌≤◌, [], IfOk, OnOk};
-ghost use Rattle.std.specs.Io.KnownBytes.{append_known};
+ghost use Rattle.std.specs.Prelude.{◌≡◌, ◌<◌, ◌≤◌, IfOk};
 ghost use Rattle.dma_memory.specs.Layout.{size_of};
 ghost use Rattle.bus.specs.Keeping.{Keeps};
 ghost use Rattle.bring_up.specs.Configuration.{configured_counts};
-ghost use Rattle.drive.specs.Drives.{Drives, counts_of};
-ghost use Rattle.drive.specs.Exchanging.{Exchanges, exchange_at};
+ghost use Rattle.drive.specs.Drives.{Drives, layout_counts};
 ghost use Rattle.packet_socket.specs.HostCalls.{HostReady};
 
 use crate::exchange::Exchange;
@@ -19,7 +17,7 @@ use std::alloc::Global;
 
 /// Returns the configuration of a promiscuous driver with these rings, and without groups and VLANs.
 fn config(rings: &DriveRings) -> Config
-    ensures { configured_counts result ≡ counts_of rings.now }
+    ensures { configured_counts result ≡ layout_counts rings.now }
 {
     Config {
         rx: rings.rx,
@@ -39,7 +37,7 @@ fn bring_up<B: WatchedBus>(
     rings: &DriveRings,
 ) -> Result<Host, DriveError>
     ensures keeps { Keeps B.Bus bus.old bus.new }
-    ensures layout { IfOk result (λ host. host.driver.layout ≡ counts_of rings.now) }
+    ensures layout { IfOk result (λ host. host.driver.layout ≡ layout_counts rings.now) }
     ensures memory { IfOk result (λ host. size_of host.driver.layout ≤ B.Bus.extent bus.new) }
     ensures ready { B.Bus.honest bus.old → IfOk result (λ host. HostReady host (B.Bus.world bus.new)) }
 {
@@ -58,33 +56,6 @@ fn reason(fault: Option<BusFault>, error: InitError) -> DriveError {
         (Some(fault), _) => DriveError::Bus(fault),
         (None, InitError::Memory) => DriveError::Memory,
         (None, error) => DriveError::Init(error),
-    }
-}
-
-impl Exchange {
-    /// Makes turns until the number of frames in `limits.expect` was received, if there is one, or `quiet` is at least
-    /// `limits.idle`.
-    fn wait<B: WatchedBus, S: Sink>(
-        &mut self,
-        bus: &mut B,
-        sink: &mut S,
-        limits: &DriveLimits,
-    ) -> Result<(), DriveError>
-        requires memory { size_of self.old.host.driver.layout ≤ B.Bus.extent bus.old }
-        requires countable { S.failures sink.old < u64.MAX }
-        ensures keeps { Keeps B.Bus bus.old bus.new }
-        ensures exchanges { OnOk result (Exchanges B.Bus []
-            (exchange_at bus.old self.old.host (append_known (S.taken sink.old) self.old.writer) self.old.received)
-            (exchange_at bus.new self.new.host (append_known (S.taken sink.new) self.new.writer) self.new.received)) }
-        ensures failures { OnOk result (S.failures sink.new ≡ S.failures sink.old) }
-    {
-        for _turn in 0..u64::MAX {
-            if limits.are_met(self.received) || self.quiet >= limits.idle {
-                break;
-            }
-            self.turn(bus, sink)?;
-        }
-        Ok(())
     }
 }
 

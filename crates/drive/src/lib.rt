@@ -13,7 +13,6 @@ mod exchange;
 mod qtest_answers;
 mod qtest_bus;
 mod qtest_requests;
-mod sending;
 mod watched_bus;
 
 pub use bus_fault::BusFault;

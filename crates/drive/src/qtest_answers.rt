@@ -40,7 +40,7 @@ enum Line {
 
 /// Returns the kind of a line.
 fn kind_of(line: &[u8]) -> Line
-    ensures { result ≡ spec.kind_of line.now }
+    ensures { result ≡ spec.qtest_line_kind line.now }
 {
     if line.starts_with(b"IRQ raise ") {
         Line::Interrupt(true)

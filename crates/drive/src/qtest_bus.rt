@@ -2,7 +2,7 @@
 
 ghost use Rattle.std.specs.Prelude.{◌≡◌, None, OnOk, false, length};
 ghost use Rattle.std.specs.Io.KnownBytes.{Appends};
-ghost use Rattle.bus.specs.BusMembers.{StaysWhole};
+ghost use Rattle.bus.specs.BusMembers.{KeepsProperties};
 ghost use Rattle.bus.specs.declared.event.Access.TheVariants.{Loads, Reads, Stores, Writes};
 ghost use Rattle.drive.specs.QtestState.{Asks, HasAsked};
 ghost use Rattle.drive.specs.QtestRequests.{request_of};
@@ -27,7 +27,9 @@ use std::marker::Model;
 pub struct QtestBus<R: BufRead, W: Write> {
     requests: Requests<W>,
     answers: Answers<R>,
+    /// The number of bytes of memory that a driver may use, from address 0.
     memory: u64,
+    /// Why the bus stopped, if it stopped.
     fault: Option<BusFault>,
 }
 
@@ -228,21 +230,21 @@ impl<R: BufRead, W: Write> Bus for QtestBus<R, W> {
     }
 
     fn read(&mut self, offset: u32) -> u32
-        ensures keeps { StaysWhole memory_size AsksAll is_never is_never self.old self.new }
+        ensures keeps { KeepsProperties memory_size AsksAll is_never is_never self.old self.new }
         ensures asks { Asks (Reads offset result) self.old self.new }
     {
         self.read_register(offset)
     }
 
     fn write(&mut self, offset: u32, value: u32)
-        ensures keeps { StaysWhole memory_size AsksAll is_never is_never self.old self.new }
+        ensures keeps { KeepsProperties memory_size AsksAll is_never is_never self.old self.new }
         ensures asks { Asks (Writes offset value) self.old self.new }
     {
         self.write_register(offset, value);
     }
 
     fn load(&mut self, address: u64, into: &mut [u8])
-        ensures keeps { StaysWhole memory_size AsksAll is_never is_never self.old self.new }
+        ensures keeps { KeepsProperties memory_size AsksAll is_never is_never self.old self.new }
         ensures length { length into.new ≡ length into.old }
         ensures asks { Asks (Loads address (length into.old)) self.old self.new }
     {
@@ -250,7 +252,7 @@ impl<R: BufRead, W: Write> Bus for QtestBus<R, W> {
     }
 
     fn store(&mut self, address: u64, bytes: &[u8])
-        ensures keeps { StaysWhole memory_size AsksAll is_never is_never self.old self.new }
+        ensures keeps { KeepsProperties memory_size AsksAll is_never is_never self.old self.new }
         ensures asks { Asks (Stores address bytes.now) self.old self.new }
     {
         self.store_bytes(address, bytes);

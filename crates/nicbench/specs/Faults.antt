@@ -14,8 +14,6 @@ use Rattle.pcap_trace.specs.declared.fault.ReadError.{ReadError}
 use Rattle.pcap_trace.specs.declared.fault.ReadError.TheVariants as input
 use Rattle.program_files.specs.declared.file_error.FileError.{FileError}
 use Rattle.program_files.specs.declared.file_error.FileError.TheVariants as files
-use Rattle.program_files.specs.declared.schedule_files.ScheduleFileError.{ScheduleFileError}
-use Rattle.program_files.specs.declared.schedule_files.ScheduleFileError.TheVariants as schedule_files
 use Rattle.drive.specs.declared.bus_fault.BusFault.{BusFault}
 use Rattle.drive.specs.declared.bus_fault.BusFault.TheVariants as bus
 use Rattle.scenario.specs.declared.refusal.Refusal.{Refusal}
@@ -28,11 +26,12 @@ use Rattle.nicbench.specs.declared.fault.Detail.{Detail}
 use Rattle.nicbench.specs.declared.fault.Detail.TheVariants as details
 use Rattle.nicbench.specs.declared.fault.Fault.{Fault}
 
-abbrev pub IsFault : ℕ → Detail → Fault → Type 0
-IsFault status detail fault = (fault.code.status ≡ status) × (fault.detail ≡ detail)
+-- The fault's code has this exit status, and this is printed with the code. Which of the codes with this status it is, isn't stated.
+abbrev pub HasStatusAndDetail : ℕ → Detail → Fault → Type 0
+HasStatusAndDetail status detail fault = (fault.code.status ≡ status) × (fault.detail ≡ detail)
 
-abbrev pub nothing : Detail
-nothing = details.Nothing
+abbrev pub no_detail : Detail
+no_detail = details.Nothing
 
 abbrev pub IsPath : List ℕ → Detail → Type 0
 IsPath path (details.Path text) = string_bytes text ≡ path
@@ -41,7 +40,7 @@ IsPath path _ = ⊥
 -- the fault of a file that is used twice: status 3 with the file's path, or status 4 if memory for the path was refused
 abbrev pub IsSameFile : List ℕ → Fault → Type 0
 IsSameFile path fault =
-    ((fault.code.status ≡ 3) × IsPath path fault.detail) ⊎ IsFault 4 nothing fault
+    ((fault.code.status ≡ 3) × IsPath path fault.detail) ⊎ HasStatusAndDetail 4 no_detail fault
 
 -- the status of an input that isn't a trace, can't be read, or for which memory was refused
 abbrev pub status_of_input : ReadError → ℕ
@@ -59,11 +58,19 @@ status_of_bus bus.Answer = 1
 status_of_bus bus.Read = 3
 status_of_bus bus.Write = 3
 
+abbrev pub status_of_schedule : ScheduleError → ℕ
+status_of_schedule (schedules.Line line fault) = 1
+status_of_schedule schedules.Text = 1
+status_of_schedule schedules.Memory = 4
+
 abbrev pub status_of_file : FileError → ℕ
 status_of_file (files.Open path) = 3
 status_of_file (files.Input error path) = status_of_input error
 status_of_file files.TraceMemory = 4
 status_of_file files.Pipe = 3
+status_of_file (files.Schedule error) = status_of_schedule error
+status_of_file files.OtherOptions = 1
+status_of_file files.Write = 3
 status_of_file files.Memory = 4
 
 abbrev pub status_of_pass : PassError → ℕ
@@ -91,45 +98,29 @@ status_of_drive (drive.Init error) = 1
 status_of_drive (drive.Bus fault) = status_of_bus fault
 status_of_drive drive.Write = 3
 
-abbrev pub status_of_schedule : ScheduleError → ℕ
-status_of_schedule (schedules.Line line fault) = 1
-status_of_schedule schedules.Text = 1
-status_of_schedule schedules.Memory = 4
-
-abbrev pub status_of_schedule_file : ScheduleFileError → ℕ
-status_of_schedule_file (schedule_files.File error) = status_of_file error
-status_of_schedule_file (schedule_files.Schedule error) = status_of_schedule error
-status_of_schedule_file schedule_files.Options = 1
-status_of_schedule_file schedule_files.Write = 3
-status_of_schedule_file schedule_files.Memory = 4
+abbrev pub detail_of_schedule : ScheduleError → Detail
+detail_of_schedule schedules.Memory = no_detail
+detail_of_schedule error = details.Schedule error
 
 abbrev pub detail_of_file : FileError → Detail
 detail_of_file (files.Open path) = details.Path path
 detail_of_file (files.Input error path) = details.Input path
-detail_of_file _ = nothing
+detail_of_file (files.Schedule error) = detail_of_schedule error
+detail_of_file files.OtherOptions = details.Options
+detail_of_file _ = no_detail
 
 abbrev pub detail_of_refusal : Refusal → Detail
 detail_of_refusal (refusals.Line line fault) = details.Line line
-detail_of_refusal refusals.Memory = nothing
+detail_of_refusal refusals.Memory = no_detail
 
 abbrev pub detail_of_plan : PlanError → Detail
 detail_of_plan (plan.Init host reason) = details.Reason reason
-detail_of_plan _ = nothing
+detail_of_plan _ = no_detail
 
 abbrev pub detail_of_bench : BenchError → Detail
 detail_of_bench (bench.Plan error) = detail_of_plan error
-detail_of_bench _ = nothing
+detail_of_bench _ = no_detail
 
 abbrev pub detail_of_drive : DriveError → Detail
 detail_of_drive (drive.Init reason) = details.Reason reason
-detail_of_drive _ = nothing
-
-abbrev pub detail_of_schedule : ScheduleError → Detail
-detail_of_schedule schedules.Memory = nothing
-detail_of_schedule error = details.Schedule error
-
-abbrev pub detail_of_schedule_file : ScheduleFileError → Detail
-detail_of_schedule_file (schedule_files.File error) = detail_of_file error
-detail_of_schedule_file (schedule_files.Schedule error) = detail_of_schedule error
-detail_of_schedule_file schedule_files.Options = details.Options
-detail_of_schedule_file _ = nothing
+detail_of_drive _ = no_detail

@@ -1,7 +1,8 @@
 //! The command `drive`.
 ghost use Rattle.std.specs.Prelude.{◌<◌};
 
-use crate::fault::{Failure, Fault};
+use crate::codes::E69;
+use crate::fault::Fault;
 use command_line::DriveJob;
 use drive::{DriveCounts, DriveLimits, DriveRings, QtestBus, drive};
 use pcap_bench::{Frames, Sink};
@@ -41,35 +42,40 @@ fn drive_adapter<S: Sink>(
     }
 }
 
-/// Sends the frames of IN and writes OUT. IN isn't `-`, because the adapter's answers are read from standard input.
-/// Returns the counts, and whether all frames were passed to the driver and the
-/// expected number, if any, was received.
-fn exchange(rt: &HostRuntime, job: &DriveJob<'_>) -> Result<(DriveCounts, bool), Fault> {
-    let trace = read_file_trace(rt, job.send)?;
-    let mut sink = create(rt, job.receive)?;
-    let counts = drive_adapter(rt, job, &trace.frames, &mut sink)?;
-    let frames = trace.frames.len() as u64;
-    Ok((counts, counts.is_all(frames, job.expect)))
-}
-
-/// Runs `drive`. Writes its counts to standard error, because it writes requests to standard output. Fails if not all
-/// frames were passed to the driver, or fewer frames than expected were received.
-pub(crate) fn run_drive(rt: &HostRuntime, job: &DriveJob<'_>) -> Result<(), Fault> {
-    let (counts, is_all) = exchange(rt, job)?;
+/// Writes the counts of a drive of this number of frames to standard error, because the requests are on standard output.
+/// Fails if not all frames were passed to the driver, or fewer frames than expected were received.
+fn report_counts(
+    rt: &HostRuntime,
+    job: &DriveJob<'_>,
+    frames: u64,
+    counts: &DriveCounts,
+) -> Result<(), Fault> {
     let DriveCounts {
         sent,
         illegal,
         received,
         missed,
         is_exact,
-    } = counts;
+    } = *counts;
     let exact = if is_exact { "exact" } else { "atleast" };
+    // A failed write to standard error isn't an error.
     let _ = eprintln!(rt;
         "sent {sent} illegal {illegal} received {received} missed {missed} {exact}"
     );
-    if is_all {
+    if counts.is_all(frames, job.expect) {
         Ok(())
     } else {
-        Err(Fault::from(Failure::Fewer))
+        Err(Fault::of(E69))
+    }
+}
+
+/// Runs `drive`: sends the frames of IN, writes OUT, and reports the counts. IN isn't `-`, because the adapter's answers
+/// are read from standard input.
+pub(crate) fn run_drive(rt: &HostRuntime, job: &DriveJob<'_>) -> Result<(), Fault> {
+    let trace = read_file_trace(rt, job.send)?;
+    let mut sink = create(rt, job.receive)?;
+    match drive_adapter(rt, job, &trace.frames, &mut sink) {
+        Ok(counts) => report_counts(rt, job, trace.frames.len() as u64, &counts),
+        Err(fault) => Err(fault),
     }
 }

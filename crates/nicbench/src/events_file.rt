@@ -2,7 +2,7 @@
 ghost use Rattle.std.specs.Prelude.{◌≡◌, IfOk, IfSome};
 
 use crate::fault::Fault;
-use crate::run::names_of_wires;
+use crate::run::{STANDARD_OUTPUT, names_of_wires};
 use command_line::RunJob;
 use network_plan::HostPlan;
 use pcap_bench::Sink;
@@ -70,8 +70,8 @@ fn create_unused(
     Ok(sink)
 }
 
-/// Opens the file for the lines of events, if the job names one. Refuses a file that the run also reads, or writes in
-/// OUTDIR. An existing file keeps its bytes; a new file is empty.
+/// Opens the file for the lines of events, if the job names a file. Refuses a file that the run also reads, or writes in
+/// OUTDIR. An existing file keeps its bytes; a new file is empty. Returns `None` if these lines go to standard output.
 pub(crate) fn create_events_sink(
     rt: &HostRuntime,
     job: &RunJob<'_>,
@@ -80,7 +80,7 @@ pub(crate) fn create_events_sink(
     ensures { IfOk result (λ file. IfSome file (λ sink. ⟦<FileSink<File> as Sink>⟧.failures sink ≡ 0)) }
 {
     match job.events {
-        Some(path) => Ok(Some(create_unused(rt, path, job, scenario)?)),
-        None => Ok(None),
+        Some(path) if path != STANDARD_OUTPUT => Ok(Some(create_unused(rt, path, job, scenario)?)),
+        _ => Ok(None),
     }
 }

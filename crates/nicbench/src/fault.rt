@@ -3,15 +3,15 @@ ghost use Rattle.std.specs.Prelude.{◌≡◌};
 ghost use Rattle.nicbench.specs.Faults as spec;
 
 use crate::codes::{
-    Code, E40, E41, E42, E43, E44, E45, E46, E47, E50, E51, E52, E53, E54, E55, E56, E57, E58, E59,
-    E60, E61, E62, E63, E64, E65, E66, E67, E68, E69, E70, E71, E72, E73,
+    Code, E40, E41, E42, E43, E44, E45, E46, E47, E50, E51, E52, E53, E54, E55, E56, E57, E59, E60,
+    E61, E62, E63, E64, E65, E66, E67, E68, E70, E72, E73,
 };
 use adapter_server::ServeError;
 use bring_up::InitError;
 use drive::{BusFault, DriveError};
 use network_plan::PlanError;
 use pcap_bench::{PassError, ReadError, WriteError};
-use program_files::{FileError, ScheduleFileError};
+use program_files::FileError;
 use scenario::{Fault as LineFault, Refusal};
 use scenario_bench::BenchError;
 use std::alloc::{AllocError, AllocFailed, Global};
@@ -46,17 +46,6 @@ pub(crate) enum Detail {
     Options,
 }
 
-/// A failure that no library reports.
-#[derive(Clone, Copy)]
-pub(crate) enum Failure {
-    /// `drive` ended before all frames were passed to the driver, or before the expected number, if any, was received.
-    Fewer,
-    /// The image of an EEPROM doesn't have 128 bytes.
-    Image,
-    /// Deviations of a schedule weren't met.
-    Unmet,
-}
-
 /// Returns the code for the error of an input: it was refused, couldn't be read, or needs memory that was refused.
 fn input_code(error: ReadError) -> Code
     ensures { result.status ≡ spec.status_of_input error }
@@ -87,33 +76,6 @@ fn line_code(fault: LineFault) -> Code
     }
 }
 
-/// Returns the code for the reason why no network was made from a plan.
-fn plan_code(error: PlanError) -> Code
-    ensures { result.status ≡ spec.status_of_plan error }
-{
-    match error {
-        PlanError::Name => E40,
-        PlanError::Ends => E41,
-        PlanError::Hosts => E42,
-        PlanError::Address => E43,
-        PlanError::Config => E44,
-        PlanError::Memory => E45,
-        PlanError::Init(_, _) => E46,
-    }
-}
-
-/// Returns the code of a bus that stopped.
-fn bus_code(fault: BusFault) -> Code
-    ensures { result.status ≡ spec.status_of_bus fault }
-{
-    match fault {
-        BusFault::Memory => E57,
-        BusFault::Answer => E59,
-        BusFault::Read => E66,
-        BusFault::Write => E67,
-    }
-}
-
 /// The text that follows `nicbench: ` on standard error.
 impl Display for Fault {
     fn fmt<W: fmt::Write>(&self, f: &mut fmt::Formatter<W>) -> fmt::Result {
@@ -131,8 +93,8 @@ impl Display for Fault {
 
 impl Fault {
     /// Returns the fault with this code, without a detail.
-    fn of(code: Code) -> Fault
-        ensures { spec.IsFault code.status spec.nothing result }
+    pub(crate) fn of(code: Code) -> Fault
+        ensures { spec.HasStatusAndDetail code.status spec.no_detail result }
     {
         Fault {
             code,
@@ -170,20 +132,21 @@ impl Fault {
     }
 }
 
-impl From<Failure> for Fault {
-    ghost from_gives = { λ _. spec.IsFault 1 spec.nothing };
-
-    fn from(failure: Failure) -> Fault {
-        match failure {
-            Failure::Fewer => Fault::of(E69),
-            Failure::Image => Fault::of(E58),
-            Failure::Unmet => Fault::of(E71),
-        }
+/// Returns the fault of a text that isn't a schedule for the job's adapter.
+fn schedule_fault(error: ScheduleError) -> Fault
+    ensures { spec.HasStatusAndDetail (spec.status_of_schedule error) (spec.detail_of_schedule error) result }
+{
+    match error {
+        ScheduleError::Memory => Fault::of(E57),
+        ScheduleError::Text | ScheduleError::Line { .. } => Fault {
+            code: E70,
+            detail: Detail::Schedule(error),
+        },
     }
 }
 
 impl From<FileError> for Fault {
-    ghost from_gives = { λ e. spec.IsFault (spec.status_of_file e) (spec.detail_of_file e) };
+    ghost from_gives = { λ e. spec.HasStatusAndDetail (spec.status_of_file e) (spec.detail_of_file e) };
 
     fn from(error: FileError) -> Fault {
         match error {
@@ -197,13 +160,19 @@ impl From<FileError> for Fault {
             },
             FileError::TraceMemory => Fault::of(E65),
             FileError::Pipe => Fault::of(E72),
+            FileError::Schedule(error) => schedule_fault(error),
+            FileError::OtherOptions => Fault {
+                code: E70,
+                detail: Detail::Options,
+            },
+            FileError::Write => Fault::of(E67),
             FileError::Memory => Fault::of(E57),
         }
     }
 }
 
 impl From<WriteError> for Fault {
-    ghost from_gives = { λ _. spec.IsFault 3 spec.nothing };
+    ghost from_gives = { λ _. spec.HasStatusAndDetail 3 spec.no_detail };
 
     fn from(_error: WriteError) -> Fault {
         Fault::of(E67)
@@ -211,7 +180,7 @@ impl From<WriteError> for Fault {
 }
 
 impl From<PassError> for Fault {
-    ghost from_gives = { λ e. spec.IsFault (spec.status_of_pass e) spec.nothing };
+    ghost from_gives = { λ e. spec.HasStatusAndDetail (spec.status_of_pass e) spec.no_detail };
 
     fn from(error: PassError) -> Fault {
         match error {
@@ -222,7 +191,7 @@ impl From<PassError> for Fault {
 }
 
 impl From<Refusal> for Fault {
-    ghost from_gives = { λ e. spec.IsFault (spec.status_of_refusal e) (spec.detail_of_refusal e) };
+    ghost from_gives = { λ e. spec.HasStatusAndDetail (spec.status_of_refusal e) (spec.detail_of_refusal e) };
 
     fn from(refusal: Refusal) -> Fault {
         match refusal {
@@ -236,15 +205,20 @@ impl From<Refusal> for Fault {
 }
 
 impl From<BenchError> for Fault {
-    ghost from_gives = { λ e. spec.IsFault (spec.status_of_bench e) (spec.detail_of_bench e) };
+    ghost from_gives = { λ e. spec.HasStatusAndDetail (spec.status_of_bench e) (spec.detail_of_bench e) };
 
     fn from(error: BenchError) -> Fault {
         match error {
+            BenchError::Plan(PlanError::Name) => Fault::of(E40),
+            BenchError::Plan(PlanError::Ends) => Fault::of(E41),
+            BenchError::Plan(PlanError::Hosts) => Fault::of(E42),
+            BenchError::Plan(PlanError::Address) => Fault::of(E43),
+            BenchError::Plan(PlanError::Config) => Fault::of(E44),
+            BenchError::Plan(PlanError::Memory) => Fault::of(E45),
             BenchError::Plan(PlanError::Init(_, reason)) => Fault {
                 code: E46,
                 detail: Detail::Reason(reason),
             },
-            BenchError::Plan(error) => Fault::of(plan_code(error)),
             BenchError::Run(_) => Fault::of(E47),
             BenchError::Memory => Fault::of(E57),
             BenchError::Write(_) => Fault::of(E67),
@@ -253,7 +227,7 @@ impl From<BenchError> for Fault {
 }
 
 impl From<ServeError> for Fault {
-    ghost from_gives = { λ e. spec.IsFault (spec.status_of_serve e) spec.nothing };
+    ghost from_gives = { λ e. spec.HasStatusAndDetail (spec.status_of_serve e) spec.no_detail };
 
     fn from(error: ServeError) -> Fault {
         match error {
@@ -265,7 +239,7 @@ impl From<ServeError> for Fault {
 }
 
 impl From<DriveError> for Fault {
-    ghost from_gives = { λ e. spec.IsFault (spec.status_of_drive e) (spec.detail_of_drive e) };
+    ghost from_gives = { λ e. spec.HasStatusAndDetail (spec.status_of_drive e) (spec.detail_of_drive e) };
 
     fn from(error: DriveError) -> Fault {
         match error {
@@ -274,44 +248,17 @@ impl From<DriveError> for Fault {
                 code: E46,
                 detail: Detail::Reason(reason),
             },
-            DriveError::Bus(fault) => Fault::of(bus_code(fault)),
+            DriveError::Bus(BusFault::Memory) => Fault::of(E57),
+            DriveError::Bus(BusFault::Answer) => Fault::of(E59),
+            DriveError::Bus(BusFault::Read) => Fault::of(E66),
+            DriveError::Bus(BusFault::Write) => Fault::of(E67),
             DriveError::Write => Fault::of(E67),
         }
     }
 }
 
-/// Returns the fault of a text that isn't a schedule for the job's adapter.
-fn schedule_fault(error: ScheduleError) -> Fault
-    ensures { spec.IsFault (spec.status_of_schedule error) (spec.detail_of_schedule error) result }
-{
-    match error {
-        ScheduleError::Memory => Fault::of(E57),
-        ScheduleError::Text | ScheduleError::Line { .. } => Fault {
-            code: E70,
-            detail: Detail::Schedule(error),
-        },
-    }
-}
-
-impl From<ScheduleFileError> for Fault {
-    ghost from_gives = { λ e. spec.IsFault (spec.status_of_schedule_file e) (spec.detail_of_schedule_file e) };
-
-    fn from(error: ScheduleFileError) -> Fault {
-        match error {
-            ScheduleFileError::File(error) => Fault::from(error),
-            ScheduleFileError::Schedule(error) => schedule_fault(error),
-            ScheduleFileError::Options => Fault {
-                code: E70,
-                detail: Detail::Options,
-            },
-            ScheduleFileError::Write => Fault::of(E67),
-            ScheduleFileError::Memory => Fault::of(E57),
-        }
-    }
-}
-
 impl From<AllocError> for Fault {
-    ghost from_gives = { λ _. spec.IsFault 4 spec.nothing };
+    ghost from_gives = { λ _. spec.HasStatusAndDetail 4 spec.no_detail };
 
     fn from(_error: AllocError) -> Fault {
         Fault::of(E57)
@@ -319,7 +266,7 @@ impl From<AllocError> for Fault {
 }
 
 impl<T: Drop> From<AllocFailed<T>> for Fault {
-    ghost from_gives = { λ _. spec.IsFault 4 spec.nothing };
+    ghost from_gives = { λ _. spec.HasStatusAndDetail 4 spec.no_detail };
 
     fn from(_error: AllocFailed<T>) -> Fault {
         Fault::of(E57)

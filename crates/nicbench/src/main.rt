@@ -38,7 +38,7 @@ fn words(rt: &HostRuntime) -> Result<Vec<String>, LineError<'static>> {
 }
 
 /// Reports on standard error why the words were refused: the text of the error, or the code of refused memory. Returns
-/// the exit status.
+/// the exit status, which doesn't depend on whether standard error accepts the report.
 fn refuse(rt: &HostRuntime, error: &LineError<'_>) -> ExitCode {
     match error {
         LineError::Memory => {

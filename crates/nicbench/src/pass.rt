@@ -3,15 +3,13 @@ ghost use Rattle.std.specs.Prelude.{◌<◌};
 ghost use Rattle.pcap_bench.specs.Options.{HasVlanNumber};
 
 use crate::fault::Fault;
+use crate::run::STANDARD_OUTPUT;
 use crate::unit::unit_of;
 use command_line::PassJob;
 use pcap_bench::{PassCounts, Sink, Trace, WriterSink, pass, print_pass};
 use program_files::{StandardError, WholeFile, create_whole, read_trace};
 use std::fs::File;
 use std::io;
-
-/// The path that means standard output.
-const STANDARD_OUTPUT: &str = "-";
 
 /// Writes to a sink the frames of a trace that pass the job's filter. Returns the counts.
 fn pass_trace<S: Sink>(

@@ -18,7 +18,7 @@ use std::fs::File;
 use std::io;
 
 /// The path that means standard output.
-const STANDARD_OUTPUT: &str = "-";
+pub(crate) const STANDARD_OUTPUT: &str = "-";
 
 /// Reads the scenario at this path.
 fn read_scenario(rt: &HostRuntime, path: &str) -> Result<Scenario, Fault> {
@@ -173,19 +173,6 @@ fn print_to_standard_output(rt: &HostRuntime, summary: &Summary) -> Result<(), F
     Ok(())
 }
 
-/// Plays a scenario, and writes the lines of events to standard output, and the lines of hosts to standard error.
-fn play_to_standard_output(
-    rt: &HostRuntime,
-    job: &RunJob<'_>,
-    scenario: &Scenario,
-    traces: &[Trace],
-) -> Result<(), Fault>
-    requires { length traces.now ≡ length scenario.now.traces.items }
-{
-    let summary = play(rt, job, scenario, traces)?;
-    print_to_standard_output(rt, &summary)
-}
-
 /// Writes the lines of events to their file, if the job asks for them.
 fn write_events<W: Sink>(summary: &Summary, file: &mut Option<W>) -> Result<(), WriteError>
     requires { IfSome file.old (λ sink. W.failures sink < u64.MAX) }
@@ -196,14 +183,8 @@ fn write_events<W: Sink>(summary: &Summary, file: &mut Option<W>) -> Result<(), 
     }
 }
 
-/// Writes the lines of hosts to standard output, and a warning, if any, to standard error.
-fn print(rt: &HostRuntime, summary: &Summary) -> Result<(), Fault> {
-    print_summary(summary, &mut WriterSink::new(io::writer(rt)))?;
-    warn(rt, summary);
-    Ok(())
-}
-
-/// Writes the lines of events to a file, if the job asks for them, and the lines of hosts to standard output.
+/// Writes the lines of events to a file, if the job asks for them, the lines of hosts to standard output, and a warning,
+/// if any, to standard error.
 fn print_with_file<W: Sink>(
     rt: &HostRuntime,
     summary: &Summary,
@@ -212,12 +193,14 @@ fn print_with_file<W: Sink>(
     requires { IfSome file.old (λ sink. W.failures sink < u64.MAX) }
 {
     write_events(summary, file)?;
-    print(rt, summary)
+    print_summary(summary, &mut WriterSink::new(io::writer(rt)))?;
+    warn(rt, summary);
+    Ok(())
 }
 
-/// Plays a scenario. Writes the lines of events to their file, if the job asks for them, and the lines of hosts to
-/// standard output.
-fn play_to_file(
+/// Plays a scenario with these traces. Writes the lines of events to standard output or to a file, if the job asks for
+/// them. Writes the lines of hosts to standard output, or to standard error if the lines of events are there.
+fn play_scenario(
     rt: &HostRuntime,
     job: &RunJob<'_>,
     scenario: &Scenario,
@@ -227,22 +210,10 @@ fn play_to_file(
 {
     let mut file = create_events_sink(rt, job, scenario)?;
     let summary = play(rt, job, scenario, traces)?;
-    print_with_file(rt, &summary, &mut file)
-}
-
-/// Plays a scenario with these traces, and writes its lines to standard output or to the file that the job asks for.
-fn play_scenario(
-    rt: &HostRuntime,
-    job: &RunJob<'_>,
-    scenario: &Scenario,
-    traces: &[Trace],
-) -> Result<(), Fault>
-    requires { length traces.now ≡ length scenario.now.traces.items }
-{
     if job.events == Some(STANDARD_OUTPUT) {
-        play_to_standard_output(rt, job, scenario, traces)
+        print_to_standard_output(rt, &summary)
     } else {
-        play_to_file(rt, job, scenario, traces)
+        print_with_file(rt, &summary, &mut file)
     }
 }
 

@@ -2,7 +2,8 @@
 ghost use Rattle.std.specs.Prelude.{◌≡◌, IfOk};
 ghost use Rattle.nicbench.specs.Served.{IsImageFor, link_of, options_of};
 
-use crate::fault::{Failure, Fault};
+use crate::codes::{E58, E71};
+use crate::fault::Fault;
 use adapter_server::{ServeOptions, serve};
 use command_line::{ServeImage, ServeJob, ServeLink};
 use eeprom_phy::{Image, Link, WORDS};
@@ -48,7 +49,7 @@ fn image_of(rt: &HostRuntime, image: ServeImage<'_>) -> Result<Image, Fault>
     let bytes = read_front(rt, path, IMAGE_BYTES as u64 + 1)?;
     match image_in(bytes.as_slice()) {
         Some(image) => Ok(image),
-        None => Err(Fault::from(Failure::Image)),
+        None => Err(Fault::of(E58)),
     }
 }
 
@@ -94,9 +95,10 @@ fn report_unmet(rt: &HostRuntime, player: &Player) -> Result<(), Fault> {
         return Ok(());
     }
     for line in unmet.lines() {
+        // The exit status shows unmet deviations even if this line can't be written.
         let _ = eprintln!(rt; "nicbench: not met: {line}");
     }
-    Err(Fault::from(Failure::Unmet))
+    Err(Fault::of(E71))
 }
 
 /// Stores the schedule that was recorded if there is a file for it, and reports the deviations that weren't met.

@@ -15,7 +15,7 @@ use Rattle.rx_engine.specs.FilterLaws.{SameSets, SameSets-sym, Passes-same, HasE
 use Rattle.rx_engine.specs.FilterLaws.{HasTableBit-with_number}
 use Rattle.adapter.specs.Registers.{filter_at_reset}
 use Rattle.command_line.specs.declared.job.PassFilter.{PassFilter}
-use Rattle.pcap_bench.specs.Choosing.{mode_bits, mode_for, with_address, with_bit, with_group, with_tables, with_vlan}
+use Rattle.pcap_bench.specs.Choosing.{mode_bits, mode_for, with_address, with_bit, with_group_bit, with_tables, with_vlan_bit}
 use Rattle.pcap_bench.specs.Lane.{IsReceiving}
 use Rattle.pcap_bench.specs.Options.{IsOpen, KeptBy, filter_for, HasVlanNumber}
 
@@ -152,7 +152,7 @@ pub record AreChosen (options : PassFilter) (regs : FilterRegisters) : Type 0 wh
   pub vet : regs.vet ≡ 0x8100
 
 abbrev written_to : Option (List ℕ) → Option (List ℕ) → Option ℕ → List ℕ → FilterRegisters
-written_to a g v words = with_vlan v (with_group g (with_address a (filter_at_reset words)))
+written_to a g v words = with_vlan_bit v (with_group_bit g (with_address a (filter_at_reset words)))
 
 tables_are : (a g : Option (List ℕ)) (v : Option ℕ) (words : List ℕ) → ((written_to a g v words).ral ≡ low_words a)
     × ((written_to a g v words).rah ≡ high_words a) × ((written_to a g v words).mta ≡ with_bit_of (number_of_group g))

@@ -12,12 +12,12 @@ use Rattle.descriptors.specs.Laws.{rx_desc_of-rx_desc_bytes, length-rx_desc_byte
 use Rattle.rx_engine.specs.Descriptors.{descriptor_at, named_address}
 use Rattle.rx_engine.specs.Finishing.{finished_bytes, IsFinished}
 use Rattle.rx_engine.specs.Laws.{bytes_of_work-moved, descriptor_at-apart, descriptor_at-finished, written_back-finished}
-use Rattle.pcap_bench.specs.Lane.{slots, buffer_at, offered, NameBuffers}
+use Rattle.pcap_bench.specs.Lane.{slots, lane_buffer, offered_descriptor, NameBuffers}
 
 -- ---- addresses
 
 pub buffer_lies : (memory frame : List ℕ) (slot : ℕ) → slot < slots → length memory ≡ 34816 → IsLegal frame
-    → LiesIn memory (buffer_at slot) (length frame)
+    → LiesIn memory (lane_buffer slot) (length frame)
 buffer_lies memory frame slot below size legal = let most = legal.most in omega arith
 
 desc_lies : (memory : List ℕ) (slot : ℕ) → slot < slots → length memory ≡ 34816 → LiesIn memory (16 * slot) 16
@@ -73,7 +73,7 @@ pub NameBuffers-finished : (memory frame : List ℕ) (slot : ℕ) → slot < slo
 NameBuffers-finished memory frame slot below named legal room =
     λ k k_below.
     let middle : named_address (with_frame memory slot frame) (16 * k)
-    ≡ buffer_at k = ap (λ (d : RxDesc). d.address) (kept_by_frame memory frame slot k k_below room) ∙ named k k_below in
+    ≡ lane_buffer k = ap (λ (d : RxDesc). d.address) (kept_by_frame memory frame slot k k_below room) ∙ named k k_below in
     elim (cases_lt k slot) [
       | inl before ↦ ap (λ (d : RxDesc). d.address)
           (kept_by_finish (with_frame memory slot frame) slot k (length frame) below k_below room.size (inl before)) ∙ middle
@@ -123,21 +123,21 @@ frame_finished memory frame slot below size named legal room =
 
 -- memory with the descriptor of a slot that offers a buffer
 abbrev pub with_offer : List ℕ → ℕ → ℕ → List ℕ
-with_offer memory slot buffer = with_bytes memory (16 * slot) (rx_desc_bytes (offered buffer))
+with_offer memory slot buffer = with_bytes memory (16 * slot) (rx_desc_bytes (offered_descriptor buffer))
 
 offer_lies : (memory : List ℕ) (slot buffer : ℕ) → slot < slots → length memory ≡ 34816
-    → LiesIn memory (16 * slot) (length (rx_desc_bytes (offered buffer)))
-offer_lies memory slot buffer below size = omega (arith, length-rx_desc_bytes (offered buffer))
+    → LiesIn memory (16 * slot) (length (rx_desc_bytes (offered_descriptor buffer)))
+offer_lies memory slot buffer below size = omega (arith, length-rx_desc_bytes (offered_descriptor buffer))
 
 pub length-offer : (memory : List ℕ) (slot buffer : ℕ) → slot < slots → length memory ≡ 34816
     → length (with_offer memory slot buffer) ≡ 34816
-length-offer memory slot buffer below size = length-with_bytes memory (rx_desc_bytes (offered buffer)) (16 * slot)
+length-offer memory slot buffer below size = length-with_bytes memory (rx_desc_bytes (offered_descriptor buffer)) (16 * slot)
     (offer_lies memory slot buffer below size) ∙ size
 
 pub descriptor_at-offered : (memory : List ℕ) (slot buffer : ℕ) → slot < slots → length memory ≡ 34816 → buffer < 2 ^ 64
-    → descriptor_at (with_offer memory slot buffer) (16 * slot) ≡ offered buffer
+    → descriptor_at (with_offer memory slot buffer) (16 * slot) ≡ offered_descriptor buffer
 descriptor_at-offered memory slot buffer below size small =
-    let desc = offered buffer in
+    let desc = offered_descriptor buffer in
     let fits : Fits desc = record
     { address = small; length = omega arith; checksum = omega arith; status = omega arith; errors = omega arith; special = omega arith }
     in
@@ -148,8 +148,8 @@ descriptor_at-offered memory slot buffer below size small =
 kept_by_offer : (memory : List ℕ) (slot other buffer : ℕ) → slot < slots → length memory ≡ 34816 → IsOther other slot
     → descriptor_at (with_offer memory slot buffer) (16 * other) ≡ descriptor_at memory (16 * other)
 kept_by_offer memory slot other buffer below size apart =
-    let bytes = rx_desc_bytes (offered buffer) in
-    let count : length bytes ≡ 16 = length-rx_desc_bytes (offered buffer) in
+    let bytes = rx_desc_bytes (offered_descriptor buffer) in
+    let count : length bytes ≡ 16 = length-rx_desc_bytes (offered_descriptor buffer) in
     descriptor_at-apart memory bytes (16 * other) (16 * slot) (offer_lies memory slot buffer below size) (elim apart [
       | inl before ↦ inr (omega arith)
       | inr after ↦ inl (omega arith)
@@ -157,10 +157,10 @@ kept_by_offer memory slot other buffer below size apart =
 
 -- The descriptors below a bound point to their buffers.
 abbrev pub NameBelow : List ℕ → ℕ → Type 0
-NameBelow memory bound = (k : ℕ) → k < bound → named_address memory (16 * k) ≡ buffer_at k
+NameBelow memory bound = (k : ℕ) → k < bound → named_address memory (16 * k) ≡ lane_buffer k
 
-pub NameBelow-offered : (memory : List ℕ) (slot bound buffer : ℕ) → slot < slots → length memory ≡ 34816 → buffer ≡ buffer_at slot
-    → ((k : ℕ) → k < bound → IsOther k slot → named_address memory (16 * k) ≡ buffer_at k)
+pub NameBelow-offered : (memory : List ℕ) (slot bound buffer : ℕ) → slot < slots → length memory ≡ 34816 → buffer ≡ lane_buffer slot
+    → ((k : ℕ) → k < bound → IsOther k slot → named_address memory (16 * k) ≡ lane_buffer k)
     → NameBelow (with_offer memory slot buffer) bound
 NameBelow-offered memory slot bound buffer below size is named =
     λ k k_below. elim (cases_lt k slot) [
@@ -171,7 +171,7 @@ NameBelow-offered memory slot bound buffer below size is named =
             ∙ named k k_below (inr after)
         | inr not_after ↦
             let same : slot ≡ k = omega arith in
-            subst (λ (i : ℕ). named_address (with_offer memory slot buffer) (16 * i) ≡ buffer_at i) same
+            subst (λ (i : ℕ). named_address (with_offer memory slot buffer) (16 * i) ≡ lane_buffer i) same
             (ap (λ (d : RxDesc). d.address) (descriptor_at-offered memory slot buffer below size (omega arith)) ∙ is)
       ]
     ]

@@ -12,13 +12,13 @@ use Rattle.pcap_trace.specs.Format.{Timed, packet_of, written}
 use Rattle.pcap_trace.proofs.Flushed.{flushed_front}
 use Rattle.pcap_trace.specs.declared.unit.Unit.{Unit}
 use Rattle.pcap_trace.proofs.Packets.{written-push}
-use Rattle.pcap_bench.specs.Passing.{Filter, Fate, illegal, filtered, kept, IsFate, HaveFates, is_illegal, is_filtered, is_kept, kept_from}
+use Rattle.pcap_bench.specs.Passing.{Filter, Fate, illegal, filtered, kept, IsFateBy, HaveFates, is_illegal_fate, is_filtered, is_kept, kept_from}
 use Rattle.pcap_bench.specs.Passing.{StopsAmong, WritesKept}
 use Rattle.pcap_bench.specs.declared.counts.PassCounts.{PassCounts}
 
 -- ---- one more frame
 
-HaveFates-push : (keeps : Filter) (fs : List (List ℕ)) (ts : List Fate) (f : List ℕ) (t : Fate) → HaveFates keeps fs ts → IsFate keeps f t
+HaveFates-push : (keeps : Filter) (fs : List (List ℕ)) (ts : List Fate) (f : List ℕ) (t : Fate) → HaveFates keeps fs ts → IsFateBy keeps f t
     → HaveFates keeps (fs ++ f ∷ []) (ts ++ t ∷ [])
 HaveFates-push keeps [] [] f t right is = (is, tt)
 HaveFates-push keeps [] (u ∷ us) f t right is = absurd right
@@ -47,7 +47,7 @@ count_by-push p ts t = sum_by_push (λ x. cond (p x) 1 0) ts t
 
 -- ---- two filters that keep the same frames
 
-IsFate-same : (keeps others : Filter) (f : List ℕ) (t : Fate) → ((g : List ℕ) → keeps g ↔ others g) → IsFate keeps f t → IsFate others f t
+IsFate-same : (keeps others : Filter) (f : List ℕ) (t : Fate) → ((g : List ℕ) → keeps g ↔ others g) → IsFateBy keeps f t → IsFateBy others f t
 IsFate-same keeps others f illegal both is = is
 IsFate-same keeps others f filtered both is = (is.0, λ kept. is.1 ((both (padded f)).1 kept))
 IsFate-same keeps others f kept both is = (is.0, (both (padded f)).0 is.1)
@@ -94,7 +94,7 @@ pub record SoFar (unit : Unit) (keeps : Filter) (frames rest : List (List ℕ)) 
   pub right : HaveFates keeps done fates
   pub went : Appends before after (written unit (kept_from 0 done fates))
   pub next_is : next ≡ length done
-  pub illegal_is : dropped ≡ count_by is_illegal fates
+  pub illegal_is : dropped ≡ count_by is_illegal_fate fates
   pub filtered_is : turned_away ≡ count_by is_filtered fates
   pub written_is : out ≡ count_by is_kept fates
   pub sum : dropped + turned_away + out ≡ next
@@ -121,41 +121,46 @@ more_parts : (frames done left rest : List (List ℕ)) (f : List ℕ) → left �
 more_parts frames done left rest f first parts =
     parts ∙ ap (λ (x : List (List ℕ)). done ++ x) first ∙ sym (append_assoc done (f ∷ []) rest)
 
+-- One more frame has this fate. Its count grows by one, and the frame was written if it is kept.
+SoFar-next : (unit : Unit) (keeps : Filter) (frames left rest : List (List ℕ)) (f : List ℕ) (fate : Fate)
+    (next dropped turned_away out d t o : ℕ) (before mid after : Option (List ℕ)) → left ≡ f ∷ rest → IsFateBy keeps f fate
+    → d ≡ dropped + cond (is_illegal_fate fate) 1 0 → t ≡ turned_away + cond (is_filtered fate) 1 0 → o ≡ out + cond (is_kept fate) 1 0
+    → d + t + o ≡ next + 1
+    → (s : SoFar unit keeps frames left next dropped turned_away out before mid)
+    → Appends before after (written unit (kept_from 0 s.done s.fates ++ kept_of next f fate))
+    → SoFar unit keeps frames rest (next + 1) d t o before after
+SoFar-next unit keeps frames left rest f fate next dropped turned_away out d t o before mid after first is d_is t_is o_is sum s went =
+    let all : kept_from 0 (s.done ++ f ∷ []) (s.fates ++ fate ∷ []) ≡ kept_from 0 s.done s.fates ++ kept_of next f fate =
+    kept_from-push keeps 0 s.done s.fates f fate s.right
+    ∙ ap (λ (k : ℕ). kept_from 0 s.done s.fates ++ kept_of k f fate) (omega (arith, s.next_is)) in
+    record {
+      done = s.done ++ f ∷ [];
+      parts = more_parts frames s.done left rest f first s.parts;
+      fates = s.fates ++ fate ∷ [];
+      right = HaveFates-push keeps s.done s.fates f fate s.right is;
+      went = subst (λ (x : List Timed). Appends before after (written unit x)) (sym all) went;
+      next_is = omega (arith, s.next_is, length-append s.done (f ∷ []));
+      illegal_is = omega (arith, s.illegal_is, count_by-push is_illegal_fate s.fates fate);
+      filtered_is = omega (arith, s.filtered_is, count_by-push is_filtered s.fates fate);
+      written_is = omega (arith, s.written_is, count_by-push is_kept s.fates fate);
+      sum = sum;
+    }
+
 pub SoFar-illegal : (unit : Unit) (keeps : Filter) (frames left rest : List (List ℕ)) (f : List ℕ) (next dropped turned_away out : ℕ)
     (before after : Option (List ℕ)) → left ≡ f ∷ rest → is_sendable f ≡ false
     → SoFar unit keeps frames left next dropped turned_away out before after
     → SoFar unit keeps frames rest (next + 1) (dropped + 1) turned_away out before after
-SoFar-illegal unit keeps frames left rest f next dropped turned_away out before after first bad s = record {
-  done = s.done ++ f ∷ [];
-  parts = more_parts frames s.done left rest f first s.parts;
-  fates = s.fates ++ illegal ∷ [];
-  right = HaveFates-push keeps s.done s.fates f illegal s.right bad;
-  went = subst (λ (x : List Timed). Appends before after (written unit x))
-      (sym (kept_from-push keeps 0 s.done s.fates f illegal s.right ∙ append-nil (kept_from 0 s.done s.fates))) s.went;
-  next_is = omega (arith, s.next_is, length-append s.done (f ∷ []));
-  illegal_is = omega (arith, s.illegal_is, count_by-push is_illegal s.fates illegal);
-  filtered_is = omega (arith, s.filtered_is, count_by-push is_filtered s.fates illegal);
-  written_is = omega (arith, s.written_is, count_by-push is_kept s.fates illegal);
-  sum = omega (arith, s.sum);
-}
+SoFar-illegal unit keeps frames left rest f next dropped turned_away out before after first bad s =
+    SoFar-next unit keeps frames left rest f illegal next dropped turned_away out (dropped + 1) turned_away out before after after first bad
+    (omega arith) (omega arith) (omega arith) (omega (arith, s.sum)) s (rw append-nil s.went)
 
 pub SoFar-filtered : (unit : Unit) (keeps : Filter) (frames left rest : List (List ℕ)) (f : List ℕ) (next dropped turned_away out : ℕ)
     (before after : Option (List ℕ)) → left ≡ f ∷ rest → is_sendable f ≡ true → (keeps (padded f) → ⊥)
     → SoFar unit keeps frames left next dropped turned_away out before after
     → SoFar unit keeps frames rest (next + 1) dropped (turned_away + 1) out before after
-SoFar-filtered unit keeps frames left rest f next dropped turned_away out before after first good away s = record {
-  done = s.done ++ f ∷ [];
-  parts = more_parts frames s.done left rest f first s.parts;
-  fates = s.fates ++ filtered ∷ [];
-  right = HaveFates-push keeps s.done s.fates f filtered s.right (good, away);
-  went = subst (λ (x : List Timed). Appends before after (written unit x))
-      (sym (kept_from-push keeps 0 s.done s.fates f filtered s.right ∙ append-nil (kept_from 0 s.done s.fates))) s.went;
-  next_is = omega (arith, s.next_is, length-append s.done (f ∷ []));
-  illegal_is = omega (arith, s.illegal_is, count_by-push is_illegal s.fates filtered);
-  filtered_is = omega (arith, s.filtered_is, count_by-push is_filtered s.fates filtered);
-  written_is = omega (arith, s.written_is, count_by-push is_kept s.fates filtered);
-  sum = omega (arith, s.sum);
-}
+SoFar-filtered unit keeps frames left rest f next dropped turned_away out before after first good away s =
+    SoFar-next unit keeps frames left rest f filtered next dropped turned_away out dropped (turned_away + 1) out before after after first
+    (good, away) (omega arith) (omega arith) (omega arith) (omega (arith, s.sum)) s (rw append-nil s.went)
 
 pub SoFar-kept : (unit : Unit) (keeps : Filter) (frames left rest : List (List ℕ)) (f : List ℕ) (next dropped turned_away out : ℕ)
     (before mid after : Option (List ℕ)) → left ≡ f ∷ rest → is_sendable f ≡ true → keeps (padded f)
@@ -165,22 +170,10 @@ pub SoFar-kept : (unit : Unit) (keeps : Filter) (frames left rest : List (List �
 SoFar-kept unit keeps frames left rest f next dropped turned_away out before mid after first good keep s went =
     let ts = kept_from 0 s.done s.fates in
     let t : Timed = record { time = next; frame = padded f } in
-    let now : kept_of (0 + length s.done) f kept ≡ t ∷ [] = ap (λ (k : ℕ). kept_of k f kept) (omega (arith, s.next_is)) in
-    let all : kept_from 0 (s.done ++ f ∷ []) (s.fates ++ kept ∷ []) ≡ ts ++ t ∷ [] = kept_from-push keeps 0 s.done s.fates f kept s.right
-    ∙ ap (λ (x : List Timed). ts ++ x) now in
-    record {
-      done = s.done ++ f ∷ [];
-      parts = more_parts frames s.done left rest f first s.parts;
-      fates = s.fates ++ kept ∷ [];
-      right = HaveFates-push keeps s.done s.fates f kept s.right (good, keep);
-      went = subst (Appends before after) (sym (ap (written unit) all ∙ written-push unit ts t))
-          (Appends-trans before mid after (written unit ts) (packet_of unit t) s.went went);
-      next_is = omega (arith, s.next_is, length-append s.done (f ∷ []));
-      illegal_is = omega (arith, s.illegal_is, count_by-push is_illegal s.fates kept);
-      filtered_is = omega (arith, s.filtered_is, count_by-push is_filtered s.fates kept);
-      written_is = omega (arith, s.written_is, count_by-push is_kept s.fates kept);
-      sum = omega (arith, s.sum);
-    }
+    SoFar-next unit keeps frames left rest f kept next dropped turned_away out dropped turned_away (out + 1) before mid after first
+    (good, keep) (omega arith) (omega arith) (omega arith) (omega (arith, s.sum)) s
+    (subst (Appends before after) (sym (written-push unit ts t))
+    (Appends-trans before mid after (written unit ts) (packet_of unit t) s.went went))
 
 -- ---- the end
 

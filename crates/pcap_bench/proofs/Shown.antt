@@ -4,19 +4,19 @@ use Rattle.std.specs.Io.KnownBytes.{Appends}
 use Rattle.std.proofs.KnownBytes.{Appends-trans}
 use Rattle.pcap_trace.specs.Devices.{AppendsFront}
 use Rattle.pcap_trace.proofs.Sent.{AppendsFront-longer, AppendsFront-then, SentUpTo}
-use Rattle.pcap_bench.specs.Showing.{frame_line, lines_from}
+use Rattle.pcap_bench.specs.Showing.{shown_frame, shown_frames}
 
 pub SentUpTo-frame : (a b : Option (List ℕ)) (bytes end : List ℕ) (n : ℕ) (frames rest : List (List ℕ)) (frame : List ℕ)
-    → frames ≡ frame ∷ rest → SentUpTo a b bytes (lines_from n frames ++ end)
-    → SentUpTo a b bytes (frame_line n frame ++ (lines_from (n + 1) rest ++ end))
+    → frames ≡ frame ∷ rest → SentUpTo a b bytes (shown_frames n frames ++ end)
+    → SentUpTo a b bytes (shown_frame n frame ++ (shown_frames (n + 1) rest ++ end))
 SentUpTo-frame a b bytes end n frames rest frame is sent =
     subst (SentUpTo a b bytes)
-    (ap (λ (fs : List (List ℕ)). lines_from n fs ++ end) is ∙ append_assoc (frame_line n frame) (lines_from (n + 1) rest) end) sent
+    (ap (λ (fs : List (List ℕ)). shown_frames n fs ++ end) is ∙ append_assoc (shown_frame n frame) (shown_frames (n + 1) rest) end) sent
 
 pub SentUpTo-none : (a b : Option (List ℕ)) (bytes end : List ℕ) (n : ℕ) (frames : List (List ℕ)) → frames ≡ []
-    → SentUpTo a b bytes (lines_from n frames ++ end) → SentUpTo a b bytes end
+    → SentUpTo a b bytes (shown_frames n frames ++ end) → SentUpTo a b bytes end
 SentUpTo-none a b bytes end n frames is sent =
-    subst (SentUpTo a b bytes) (ap (λ (fs : List (List ℕ)). lines_from n fs ++ end) is) sent
+    subst (SentUpTo a b bytes) (ap (λ (fs : List (List ℕ)). shown_frames n fs ++ end) is) sent
 
 pub SentUpTo-line : (a b c : Option (List ℕ)) (bytes line rest : List ℕ) → SentUpTo a b bytes (line ++ rest) → Appends b c line
     → SentUpTo a c bytes rest

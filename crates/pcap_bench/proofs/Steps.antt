@@ -18,8 +18,8 @@ use Rattle.adapter.specs.declared.outcome.Outcome.TheVariants.{Moved, Done}
 use Rattle.adapter.specs.Receiving.{after_arrive, after_data, after_done, memory_after_data_step, memory_after_done_step, is_last_piece}
 use Rattle.adapter.specs.Receiving.{CanMovePiece}
 use Rattle.adapter.specs.State.{AdapterState}
-use Rattle.pcap_bench.specs.Lane.{slots, buffer_at, ring_at, HasFrame, IsLane, IsReceiving, IsWaiting, LaneState, NameBuffers}
-use Rattle.pcap_bench.proofs.Lanes.{HasRoom, frame_finished, length-finished, length-offer, with_finished, with_frame, with_offer}
+use Rattle.pcap_bench.specs.Lane.{slots, lane_buffer, ring_at, HasFrame, IsLane, IsReceiving, IsWaiting, LaneState, NameBuffers}
+use Rattle.pcap_bench.proofs.Lanes.{HasRoom, frame_finished, has_room, length-finished, length-offer, with_finished, with_frame, with_offer}
 use Rattle.pcap_bench.proofs.Lanes.{NameBelow-offered, NameBuffers-finished}
 
 -- an adapter that holds no frame, with its ring's head at `head` and the driver at `slot`
@@ -74,6 +74,18 @@ can_move state memory frame slot receiving below size legal room =
       not_extended = receiving.not_extended;
     }
 
+-- After a frame was stored, it can be moved in one piece, which is its last.
+pub finishes : (lane : LaneState) (frame : List ℕ) (fate : Fate) (after : AdapterState) → IsLane lane → IsWaiting lane
+    → after ≡ after_arrive fate frame lane.adapter → fate ≡ Stored → IsLegal frame
+    → CanMovePiece lane.memory after × (is_last_piece after ≡ true)
+finishes lane frame fate after is waiting arrives stored legal =
+    let same = is_stored lane frame fate after is waiting arrives stored in
+    let room = has_room lane.memory frame lane.slot is.slot is.size is.buffers legal in (
+      subst (CanMovePiece lane.memory) (sym same)
+          (can_move lane.adapter lane.memory frame lane.slot is.receiving is.slot is.size legal room),
+      ap is_last_piece same ∙ last_piece lane.adapter frame lane.slot is.receiving legal,
+    )
+
 -- the lane after both steps
 abbrev pub after_steps : AdapterState → List ℕ → List ℕ → ℕ → LaneState
 after_steps state memory frame slot = record {
@@ -124,7 +136,7 @@ abbrev pub with_tail : AdapterState → ℕ → AdapterState
 with_tail state tail = record state { receive_ring = record state.receive_ring { tail = tail } }
 
 -- After the buffer of the driver's slot is offered and RDT is written, the state is a lane with the driver at the next slot.
-pub IsLane-offered : (lane : LaneState) (buffer : ℕ) → IsLane lane → buffer ≡ buffer_at lane.slot
+pub IsLane-offered : (lane : LaneState) (buffer : ℕ) → IsLane lane → buffer ≡ lane_buffer lane.slot
     → IsLane (record {
       adapter = with_tail lane.adapter lane.slot;
       memory = with_offer lane.memory lane.slot buffer;

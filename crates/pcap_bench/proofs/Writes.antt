@@ -33,6 +33,14 @@ written register value kept state within plain none =
 pub kept_word : (value : ℕ) → value < 2 ^ 32 → bit_and value 0xFFFFFFFF ≡ value
 kept_word value small = and_mask value 32 ∙ omega arith
 
+-- a write of a register that keeps all bits
+wrote-word : (register : Register) (value : ℕ) (state : AdapterState) → IsInTable register → (row_of register).kept ≡ Some 0xFFFFFFFF
+    → is_reset register value ≡ false → value < 2 ^ 32
+    → after_write (row_of register).offset value state ≡ with_register register value state
+wrote-word register value state within plain none small =
+    written register value 0xFFFFFFFF state within plain none
+    ∙ ap (λ (n : ℕ). with_register register n state) (kept_word value small)
+
 kept_half : (value : ℕ) → value < 2 ^ 16 → bit_and value 0xFFFF ≡ value
 kept_half value small = and_mask value 16 ∙ omega arith
 
@@ -59,8 +67,7 @@ kept_mode false false = refl
 -- ---- the exact filter
 
 wrote-ral : (low : ℕ) (state : AdapterState) → low < 2 ^ 32 → after_write 0x5400 low state ≡ with_register (Ral 0) low state
-wrote-ral low state small = written (Ral 0) low 0xFFFFFFFF state (omega arith) refl refl
-    ∙ ap (λ (n : ℕ). with_register (Ral 0) n state) (kept_word low small)
+wrote-ral low state small = wrote-word (Ral 0) low state (omega arith) refl refl small
 
 wrote-rah : (high : ℕ) (state : AdapterState) → bit_and high address_high_mask ≡ high
     → after_write 0x5404 high state ≡ with_register (Rah 0) high state
@@ -94,15 +101,13 @@ pub wrote-group : (number : ℕ) (state : AdapterState) → number ≤ 4095
     → after_write (0x5200 + 4 * (number / 32)) (2 ^ (number % 32)) state
     ≡ record state { filter = record state.filter { mta = with_bit state.filter.mta number } }
 wrote-group number state below =
-    written (Mta (number / 32)) (2 ^ (number % 32)) 0xFFFFFFFF state (omega arith) refl refl
-    ∙ ap (λ (n : ℕ). with_register (Mta (number / 32)) n state) (kept_word (2 ^ (number % 32)) (one_bit number))
+    wrote-word (Mta (number / 32)) (2 ^ (number % 32)) state (omega arith) refl refl (one_bit number)
 
 pub wrote-vlan : (number : ℕ) (state : AdapterState) → number ≤ 4095
     → after_write (0x5600 + 4 * (number / 32)) (2 ^ (number % 32)) state
     ≡ record state { filter = record state.filter { vfta = with_bit state.filter.vfta number } }
 wrote-vlan number state below =
-    written (Vfta (number / 32)) (2 ^ (number % 32)) 0xFFFFFFFF state (omega arith) refl refl
-    ∙ ap (λ (n : ℕ). with_register (Vfta (number / 32)) n state) (kept_word (2 ^ (number % 32)) (one_bit number))
+    wrote-word (Vfta (number / 32)) (2 ^ (number % 32)) state (omega arith) refl refl (one_bit number)
 
 pub wrote-vet : (state : AdapterState) → after_write 0x38 0x8100 state ≡ record state { filter = record state.filter { vet = 0x8100 } }
 wrote-vet state = written Vet 0x8100 0xFFFF state tt refl refl

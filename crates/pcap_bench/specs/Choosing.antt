@@ -19,18 +19,18 @@ with_bit table number = slice_set table (number / 32) (2 ^ (number % 32))
 
 -- MTA, if a group is given: in the word of the group's number, only this number's bit is 1. The number is bits 47 to 36 of the group's
 -- address.
-abbrev pub with_group : Option (List ℕ) → FilterRegisters → FilterRegisters
-with_group None r = r
-with_group (Some group) r = record r { mta = with_bit r.mta (group_number 4 group) }
+abbrev pub with_group_bit : Option (List ℕ) → FilterRegisters → FilterRegisters
+with_group_bit None r = r
+with_group_bit (Some group) r = record r { mta = with_bit r.mta (group_number 4 group) }
 
 -- VFTA, if a VLAN is given: in the word of the VLAN's number, only this number's bit is 1
-abbrev pub with_vlan : Option ℕ → FilterRegisters → FilterRegisters
-with_vlan None r = r
-with_vlan (Some number) r = record r { vfta = with_bit r.vfta number }
+abbrev pub with_vlan_bit : Option ℕ → FilterRegisters → FilterRegisters
+with_vlan_bit None r = r
+with_vlan_bit (Some number) r = record r { vfta = with_bit r.vfta number }
 
 -- the registers for the options' address, group and VLAN; VET is `VLAN_TYPE`
 abbrev pub with_tables : PassFilter → FilterRegisters → FilterRegisters
-with_tables options r = record (with_vlan options.vlan (with_group options.group (with_address options.address r))) { vet = VLAN_TYPE }
+with_tables options r = record (with_vlan_bit options.vlan (with_group_bit options.group (with_address options.address r))) { vet = VLAN_TYPE }
 
 -- RCTL: EN and BAM; also UPE and MPE if every address is accepted (the first argument), and VFE if a VLAN is given (the second).
 abbrev pub mode_bits : Bool → Bool → ℕ

@@ -17,16 +17,16 @@ abbrev pub slots : ℕ
 slots = 8
 
 -- the address of a slot's receive buffer: the first one follows both rings and the transmit buffers
-abbrev pub buffer_at : ℕ → ℕ
-buffer_at slot = 18432 + 2048 * slot
+abbrev pub lane_buffer : ℕ → ℕ
+lane_buffer slot = 18432 + 2048 * slot
 
 -- the descriptor that offers the buffer at address `buffer`; its status is 0
-abbrev pub offered : ℕ → RxDesc
-offered buffer = record { address = buffer; length = 0; checksum = 0; status = status_of 0; errors = 0; special = 0 }
+abbrev pub offered_descriptor : ℕ → RxDesc
+offered_descriptor buffer = record { address = buffer; length = 0; checksum = 0; status = status_of 0; errors = 0; special = 0 }
 
 -- Each descriptor points to the buffer of its slot.
 abbrev pub NameBuffers : List ℕ → Type 0
-NameBuffers memory = (slot : ℕ) → slot < slots → named_address memory (16 * slot) ≡ buffer_at slot
+NameBuffers memory = (slot : ℕ) → slot < slots → named_address memory (16 * slot) ≡ lane_buffer slot
 
 -- RDBAL, RDBAH, RDLEN, RDH and RDT: the ring of 8 descriptors is at address 0, and its tail is the slot before `slot`. So the adapter owns
 -- the slots from the head up to, but not including, the tail.

@@ -23,23 +23,23 @@ pub data Fate : Type 0 where
 
 -- A frame below 14 or above 1,518 bytes is illegal. Another frame is kept if `keeps` holds of the frame padded to at least 60 bytes, else
 -- filtered.
-abbrev pub IsFate : Filter → List ℕ → Fate → Type 0
-IsFate keeps frame illegal = is_sendable frame ≡ false
-IsFate keeps frame filtered = (is_sendable frame ≡ true) × (keeps (padded frame) → ⊥)
-IsFate keeps frame kept = (is_sendable frame ≡ true) × keeps (padded frame)
+abbrev pub IsFateBy : Filter → List ℕ → Fate → Type 0
+IsFateBy keeps frame illegal = is_sendable frame ≡ false
+IsFateBy keeps frame filtered = (is_sendable frame ≡ true) × (keeps (padded frame) → ⊥)
+IsFateBy keeps frame kept = (is_sendable frame ≡ true) × keeps (padded frame)
 
 -- The number of fates is the number of frames, and each frame has the fate at its index.
 abbrev pub HaveFates : Filter → List (List ℕ) → List Fate → Type 0
 HaveFates keeps [] [] = ⊤
 HaveFates keeps [] (t ∷ ts) = ⊥
 HaveFates keeps (f ∷ fs) [] = ⊥
-HaveFates keeps (f ∷ fs) (t ∷ ts) = IsFate keeps f t × HaveFates keeps fs ts
+HaveFates keeps (f ∷ fs) (t ∷ ts) = IsFateBy keeps f t × HaveFates keeps fs ts
 
 -- whether this is the fate of a frame of an illegal size
-abbrev pub is_illegal : Fate → Bool
-is_illegal illegal = true
-is_illegal filtered = false
-is_illegal kept = false
+abbrev pub is_illegal_fate : Fate → Bool
+is_illegal_fate illegal = true
+is_illegal_fate filtered = false
+is_illegal_fate kept = false
 
 -- whether this is the fate of a frame that the filter rejects
 abbrev pub is_filtered : Fate → Bool
@@ -75,7 +75,7 @@ pub record WritesKept (unit : Unit) (keeps : Filter) (frames : List (List ℕ)) 
   -- all frames are counted
   pub read_is : counts.read ≡ length frames
   -- the frames of illegal sizes are counted
-  pub illegal_is : counts.illegal ≡ count_by is_illegal fates
+  pub illegal_is : counts.illegal ≡ count_by is_illegal_fate fates
   -- the frames that the filter rejects are counted
   pub filtered_is : counts.filtered ≡ count_by is_filtered fates
   -- the frames that are written are counted

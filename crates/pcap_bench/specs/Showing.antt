@@ -5,7 +5,7 @@ use Rattle.std.specs.List.{flat_map}
 use Rattle.hex.specs.Hex.{encode_lower}
 use Rattle.pcap_trace.specs.declared.trace.Trace.{Trace}
 use Rattle.rx_engine.specs.Addresses.{destination}
-use Rattle.pcap_bench.specs.Printing.{field, cut_word}
+use Rattle.pcap_bench.specs.Printing.{count_field, cut_word}
 
 -- a byte, as two lower-case hexadecimal digits
 abbrev pub pair : ℕ → List ℕ
@@ -34,18 +34,18 @@ header_text frame =
     else codes " " ++ address_text (destination frame) ++ codes " " ++ address_text (source frame) ++ codes " " ++ type_text frame
 
 -- `N LEN DST SRC TYPE` or `N LEN short`
-abbrev pub frame_line : ℕ → List ℕ → List ℕ
-frame_line number frame = decimal number ++ field (codes " ") (length frame) ++ header_text frame ++ codes "\n"
+abbrev pub shown_frame : ℕ → List ℕ → List ℕ
+shown_frame number frame = decimal number ++ count_field (codes " ") (length frame) ++ header_text frame ++ codes "\n"
 
 -- a line for each frame, numbered from n on
-abbrev pub lines_from : ℕ → List (List ℕ) → List ℕ
-lines_from n [] = []
-lines_from n (frame ∷ frames) = frame_line n frame ++ lines_from (n + 1) frames
+abbrev pub shown_frames : ℕ → List (List ℕ) → List ℕ
+shown_frames n [] = []
+shown_frames n (frame ∷ frames) = shown_frame n frame ++ shown_frames (n + 1) frames
 
 -- `frames F skipped K cut no` or `frames F skipped K cut yes`
 abbrev pub end_line : Trace → List ℕ
-end_line trace = field (codes "frames ") (length trace.frames) ++ field (codes " skipped ") trace.skipped ++ cut_word trace.cut
+end_line trace = count_field (codes "frames ") (length trace.frames) ++ count_field (codes " skipped ") trace.skipped ++ cut_word trace.cut
 
 -- all lines of a trace
-abbrev pub shown : Trace → List ℕ
-shown trace = lines_from 0 trace.frames ++ end_line trace
+abbrev pub shown_trace : Trace → List ℕ
+shown_trace trace = shown_frames 0 trace.frames ++ end_line trace

@@ -2,7 +2,7 @@
 ghost use Rattle.std.specs.Prelude.{◌≡◌, ◌+◌, ◌*◌, ◌/◌, ◌%◌, ◌^◌, ◌≤◌, IfSome};
 ghost use Rattle.adapter.specs.Registers.{after_write};
 ghost use Rattle.rx_engine.specs.Addresses.{IsAddress};
-ghost use Rattle.pcap_bench.specs.Choosing.{with_address, with_group, with_tables, with_vlan, mode_for};
+ghost use Rattle.pcap_bench.specs.Choosing.{with_address, with_group_bit, with_tables, with_vlan_bit, mode_for};
 ghost use Rattle.pcap_bench.specs.Options.{HasVlanNumber};
 
 use adapter::Adapter;
@@ -15,7 +15,8 @@ use rx_engine::{AddressWords, TableBit, VLAN_TYPE, hash_of};
 /// The offset of RAH(0), which follows RAL(0).
 const RAH: u32 = RAL + REGISTER_BYTES;
 
-/// Writes RAL(0) and RAH(0): the address with AV, or 0 if no address is given.
+/// Writes RAL(0) and RAH(0): the address with AV, or 0 if no address is given, which clears the address that a reset
+/// loads from the EEPROM. (After a reset, MTA and VFTA have nothing to clear.)
 fn write_address(adapter: &mut Adapter, address: &Option<[u8; 6]>)
     ensures written { adapter.new ≡ record adapter.old { filter = with_address address.now adapter.old.filter } }
     ensures address { IfSome address.now IsAddress }
@@ -40,7 +41,7 @@ fn write_number(adapter: &mut Adapter, table: u32, number: u16)
 
 /// Writes the word of MTA that contains the bit of the group, if a group is given.
 fn write_group(adapter: &mut Adapter, group: &Option<[u8; 6]>)
-    ensures { adapter.new ≡ record adapter.old { filter = with_group group.now adapter.old.filter } }
+    ensures { adapter.new ≡ record adapter.old { filter = with_group_bit group.now adapter.old.filter } }
 {
     if let Some(group) = group {
         write_number(adapter, MTA, hash_of(GroupOffset::Bits47To36, group));
@@ -50,7 +51,7 @@ fn write_group(adapter: &mut Adapter, group: &Option<[u8; 6]>)
 /// Writes the word of VFTA that contains the bit of the VLAN, if a VLAN is given.
 fn write_vlan(adapter: &mut Adapter, vlan: Option<u16>)
     requires { IfSome vlan (λ number. number ≤ 4095) }
-    ensures { adapter.new ≡ record adapter.old { filter = with_vlan vlan adapter.old.filter } }
+    ensures { adapter.new ≡ record adapter.old { filter = with_vlan_bit vlan adapter.old.filter } }
 {
     if let Some(number) = vlan {
         write_number(adapter, VFTA, number);

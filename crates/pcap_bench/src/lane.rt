@@ -37,6 +37,7 @@ const LOW_WORD: u64 = 0xFFFF_FFFF;
 pub struct ReceiveLane {
     adapter: Adapter,
     memory: HostMemory,
+    /// The slot that the driver reads next.
     slot: u16,
 }
 
@@ -74,6 +75,7 @@ fn finish_frame(adapter: &mut Adapter, memory: &mut HostMemory)
         ≡ memory_after_done_step (memory_after_data_step Moved memory.old adapter.old)
         (after_data Moved adapter.old) }
 {
+    // The clauses require that both steps can be made, so their outcomes are known. They don't use the wire (`false`).
     let _ = adapter.step(StepKind::RxData, memory, false);
     let _ = adapter.step(StepKind::RxDone, memory, false);
 }

@@ -2,7 +2,7 @@
 ghost use Rattle.std.specs.Prelude.{◌≡◌, ◌<◌, ◌≤◌, ◌+◌, ◌++◌, length, OnOk, OnErr};
 ghost use Rattle.std.specs.Io.KnownBytes.{Appends};
 ghost use Rattle.pcap_trace.specs.Devices.{AppendsFront, CountsFailures};
-ghost use Rattle.pcap_bench.specs.Printing.{cut_word, field, pass_line};
+ghost use Rattle.pcap_bench.specs.Printing.{cut_word, count_field, pass_line};
 
 use crate::counts::PassCounts;
 use arrayvec::ArrayVec;
@@ -19,7 +19,7 @@ pub(crate) type Line = ArrayVec<u8, LONGEST_LINE>;
 pub(crate) fn push_field(line: &mut Line, label: &[u8], number: u64)
     requires label { length label.now ≤ 20 }
     requires room { length line.old.items + 60 ≤ 320 }
-    ensures text { line.new.items ≡ line.old.items ++ field label.now number }
+    ensures text { line.new.items ≡ line.old.items ++ count_field label.now number }
     ensures short { length line.new.items ≤ length line.old.items + 60 }
 {
     let mut buffer = Buffer::new();

@@ -2,8 +2,8 @@
 ghost use Rattle.std.specs.Prelude.{◌≡◌, ◌<◌, ◌≤◌, ◌+◌, ◌++◌, codes, length, OnOk, OnErr};
 ghost use Rattle.std.specs.Io.KnownBytes.{Appends};
 ghost use Rattle.pcap_trace.specs.Devices.{AppendsFront, CountsFailures};
-ghost use Rattle.pcap_bench.specs.Showing.{address_text, end_line, frame_line, header_text, pair};
-ghost use Rattle.pcap_bench.specs.Showing.{shown};
+ghost use Rattle.pcap_bench.specs.Showing.{address_text, end_line, shown_frame, header_text, pair};
+ghost use Rattle.pcap_bench.specs.Showing.{shown_trace};
 
 use crate::printing::{Line, push_cut, push_field};
 use pcap_trace::{Sink, Trace, WriteError, write_all};
@@ -57,8 +57,8 @@ fn push_header(line: &mut Line, frame: &[u8])
 /// Writes the line of a frame.
 fn write_frame<W: Sink>(sink: &mut W, number: u64, frame: &[u8]) -> Result<(), WriteError>
     requires { W.failures sink.old < u64.MAX }
-    ensures ok { OnOk result (Appends (W.taken sink.old) (W.taken sink.new) (frame_line number frame.now)) }
-    ensures err { OnErr result (AppendsFront (W.taken sink.old) (W.taken sink.new) (frame_line number frame.now)) }
+    ensures ok { OnOk result (Appends (W.taken sink.old) (W.taken sink.new) (shown_frame number frame.now)) }
+    ensures err { OnErr result (AppendsFront (W.taken sink.old) (W.taken sink.new) (shown_frame number frame.now)) }
     ensures failures { CountsFailures result (W.failures sink.old) (W.failures sink.new) }
 {
     let mut line = Line::new();
@@ -96,8 +96,8 @@ fn write_end<W: Sink>(sink: &mut W, trace: &Trace, count: u64) -> Result<(), Wri
 /// [`Write`](WriteError::Write) if the sink fails. Then only a beginning of the lines was written.
 pub fn show<W: Sink>(trace: &Trace, sink: &mut W) -> Result<(), WriteError>
     requires { W.failures sink.old < u64.MAX }
-    ensures ok { OnOk result (Appends (W.taken sink.old) (W.taken sink.new) (shown trace.now)) }
-    ensures err { OnErr result (AppendsFront (W.taken sink.old) (W.taken sink.new) (shown trace.now)) }
+    ensures ok { OnOk result (Appends (W.taken sink.old) (W.taken sink.new) (shown_trace trace.now)) }
+    ensures err { OnErr result (AppendsFront (W.taken sink.old) (W.taken sink.new) (shown_trace trace.now)) }
     ensures failures { CountsFailures result (W.failures sink.old) (W.failures sink.new) }
 {
     let count = trace.frames.len() as u64;

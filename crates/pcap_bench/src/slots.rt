@@ -3,7 +3,7 @@ ghost use Rattle.std.specs.Prelude.{◌≡◌, ◌<◌, ◌*◌, length};
 ghost use Rattle.dma_memory.specs.HostMemory.{with_bytes};
 ghost use Rattle.descriptors.specs.RxDesc.{rx_desc_bytes};
 ghost use Rattle.rx_engine.specs.Descriptors.{descriptor_at};
-ghost use Rattle.pcap_bench.specs.Lane.{slots, offered, NameBuffers};
+ghost use Rattle.pcap_bench.specs.Lane.{slots, offered_descriptor, NameBuffers};
 
 use bitflags::Flags;
 use descriptors::{RX_DESC_BYTES, RxDesc, RxStatus};
@@ -39,7 +39,7 @@ pub fn load_desc(memory: &HostMemory, slot: u16) -> RxDesc
 pub fn offer(memory: &mut HostMemory, slot: u16, buffer: u64)
     requires slot { slot < slots }
     requires size { length memory.old ≡ 34816 }
-    ensures { memory.new ≡ with_bytes memory.old (16 * slot) (rx_desc_bytes (offered buffer)) }
+    ensures { memory.new ≡ with_bytes memory.old (16 * slot) (rx_desc_bytes (offered_descriptor buffer)) }
 {
     let desc = RxDesc {
         address: buffer,

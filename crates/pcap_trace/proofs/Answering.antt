@@ -10,12 +10,12 @@ use Rattle.pcap_trace.specs.declared.fault.ReadError.TheVariants as errors
 use Rattle.pcap_trace.specs.declared.header.Endianness.{Endianness}
 use Rattle.pcap_trace.specs.declared.trace.Trace.{Trace}
 use Rattle.pcap_trace.specs.Devices.{Receives}
-use Rattle.pcap_trace.specs.Format.{Order, number_in, oversized, ending_of, IsFileHeader, IsBody, IsTraceIn, IsTrace}
+use Rattle.pcap_trace.specs.Format.{Order, number_order, oversized, ending_of, IsFileHeader, IsBody, IsTraceIn, IsTrace}
 use Rattle.pcap_trace.specs.Reading.{header_fault, IsHeaderFault, HasOversized, IsAnswer, IsOnlyAnswer, IsBodyFault, is_of_bytes}
 use Rattle.pcap_trace.specs.Reading.{TellsFailure}
 use Rattle.pcap_trace.proofs.Unique.{body_unique}
 use Rattle.pcap_trace.proofs.Orders.{number_first, one_order}
-use Rattle.pcap_trace.proofs.FileHeaders.{header_fault-record, header_fault-read, header_fault-none, header_fault-known, told_fault}
+use Rattle.pcap_trace.proofs.FileHeaders.{header_fault-other, header_fault-none, header_fault-known, told_fault}
 use Rattle.pcap_trace.proofs.FileHeaders.{told_fault-in, told_fault-magic, IsFileHeader-from_none}
 
 -- ---- no other result fits
@@ -33,9 +33,9 @@ never_oversized false e = cc
 trace_unique : (bytes : List ℕ) (t u : Trace) → IsTrace bytes t.frames t.skipped t.cut → IsTrace bytes u.frames u.skipped u.cut → u ≡ t
 trace_unique bytes t u p q =
     let one : q.0 ≡ p.0 = one_order bytes q.0 p.0 q.1.0.magic_is p.1.0.magic_is in
-    let moved : IsTraceIn (number_in p.0) bytes u.frames u.skipped u.cut = subst
-    (λ (o : Endianness). IsTraceIn (number_in o) bytes u.frames u.skipped u.cut) one q.1 in
-    let same = body_unique (number_in p.0) (number_first p.0) (drop 24 bytes) u.frames t.frames u.skipped t.skipped (ending_of u.cut)
+    let moved : IsTraceIn (number_order p.0) bytes u.frames u.skipped u.cut = subst
+    (λ (o : Endianness). IsTraceIn (number_order o) bytes u.frames u.skipped u.cut) one q.1 in
+    let same = body_unique (number_order p.0) (number_first p.0) (drop 24 bytes) u.frames t.frames u.skipped t.skipped (ending_of u.cut)
     (ending_of t.cut) moved.1 p.1.1 in
     ap (λ (x : List (List ℕ)). record { frames = x; skipped = u.skipped; cut = u.cut }) same.0
     ∙ ap (λ (x : ℕ). record { frames = t.frames; skipped = x; cut = u.cut }) same.1
@@ -43,7 +43,7 @@ trace_unique bytes t u p q =
 
 -- a file header, and then a body that ends with an oversized packet
 abbrev IsOversized : Endianness → List ℕ → Type 0
-IsOversized order bytes = IsFileHeader (number_in order) bytes × HasOversized (number_in order) (drop 24 bytes)
+IsOversized order bytes = IsFileHeader (number_order order) bytes × HasOversized (number_order order) (drop 24 bytes)
 
 not_both : (bytes : List ℕ) (t : Trace) → IsTrace bytes t.frames t.skipped t.cut → IsAnswer bytes (Err errors.Record) → ⊥
 not_both bytes t p q =
@@ -51,7 +51,7 @@ not_both bytes t p q =
     let moved : IsOversized p.0 bytes = subst (λ (o : Endianness). IsOversized o bytes) one (q.1, q.2) in
     let big = moved.1 in
     never_oversized t.cut
-    (body_unique (number_in p.0) (number_first p.0) (drop 24 bytes) t.frames big.0 t.skipped big.1
+    (body_unique (number_order p.0) (number_first p.0) (drop 24 bytes) t.frames big.0 t.skipped big.1
     (ending_of t.cut) oversized p.1.1 big.2).2
 
 -- the fault of the header that a result reports, if it reports one
@@ -61,8 +61,8 @@ fault_of (Err errors.Record) = None
 fault_of (Err e) = Some e
 
 fault_of-answer : (bytes : List ℕ) (r : Result Trace ReadError) → is_of_bytes r ≡ true → IsAnswer bytes r → told_fault bytes ≡ fault_of r
-fault_of-answer bytes (Ok t) speaks fits = told_fault-in fits.0 bytes None (header_fault-none (number_in fits.0) bytes fits.1.0) (λ h. cc)
-fault_of-answer bytes (Err errors.Record) speaks fits = told_fault-in fits.0 bytes None (header_fault-none (number_in fits.0) bytes fits.1)
+fault_of-answer bytes (Ok t) speaks fits = told_fault-in fits.0 bytes None (header_fault-none (number_order fits.0) bytes fits.1.0) (λ h. cc)
+fault_of-answer bytes (Err errors.Record) speaks fits = told_fault-in fits.0 bytes None (header_fault-none (number_order fits.0) bytes fits.1)
     (λ h. cc)
 fault_of-answer bytes (Err errors.Memory) speaks fits = absurd cc
 fault_of-answer bytes (Err errors.Read) speaks fits = absurd cc
@@ -126,7 +126,7 @@ fault_fits bytes errors.Header h = h
 fault_fits bytes errors.Magic h = h
 fault_fits bytes errors.Version h = h
 fault_fits bytes errors.LinkType h = h
-fault_fits bytes errors.Record h = absurd (header_fault-record (number_in h.0) bytes h.1)
+fault_fits bytes errors.Record h = absurd (header_fault-other (number_order h.0) bytes errors.Record refl h.1)
 fault_fits bytes errors.Memory h = tt
 fault_fits bytes errors.Read h = tt
 
@@ -134,10 +134,10 @@ known_parts : (held bytes rest : List ℕ) → (r : Receives [] held (Some bytes
 known_parts held bytes rest r = r.2 ∙ ap (λ (t : List ℕ). t ++ rest) (sym r.1)
 
 fault_known : (order : Endianness) (held bytes rest : List ℕ) → Receives [] held (Some bytes) (Some rest)
-    → (24 ≤ length held) ⊎ IsAtEnd (Some rest) → header_fault (number_in order) bytes ≡ header_fault (number_in order) held
+    → (24 ≤ length held) ⊎ IsAtEnd (Some rest) → header_fault (number_order order) bytes ≡ header_fault (number_order order) held
 fault_known order held bytes rest r filled =
-    ap (header_fault (number_in order)) (known_parts held bytes rest r)
-    ∙ header_fault-known (number_in order) (number_first order) held rest filled
+    ap (header_fault (number_order order)) (known_parts held bytes rest r)
+    ∙ header_fault-known (number_order order) (number_first order) held rest filled
 
 any_fault_known : (held bytes rest : List ℕ) (e : ReadError) → Receives [] held (Some bytes) (Some rest)
     → (24 ≤ length held) ⊎ IsAtEnd (Some rest) → IsHeaderFault held e → IsHeaderFault bytes e
@@ -151,9 +151,9 @@ fits_fault None left held e r filled fault = tt
 fits_fault (Some bytes) None held e r filled fault = absurd r.2
 fits_fault (Some bytes) (Some rest) held e r filled fault = fault_fits bytes e (any_fault_known held bytes rest e r filled fault)
 
-body_fits : (order : Endianness) (bytes : List ℕ) (r : Result Trace ReadError) → IsFileHeader (number_in order) bytes
-    → IfOk r (λ t. IsBody (number_in order) (drop 24 bytes) t.frames t.skipped (ending_of t.cut))
-    → IfErr r (λ e. IsBodyFault (number_in order) (drop 24 bytes) e) → IsAnswer bytes r
+body_fits : (order : Endianness) (bytes : List ℕ) (r : Result Trace ReadError) → IsFileHeader (number_order order) bytes
+    → IfOk r (λ t. IsBody (number_order order) (drop 24 bytes) t.frames t.skipped (ending_of t.cut))
+    → IfErr r (λ e. IsBodyFault (number_order order) (drop 24 bytes) e) → IsAnswer bytes r
 body_fits order bytes (Ok t) header ok fault = (order, (header, ok))
 body_fits order bytes (Err errors.Record) header ok fault = (order, header, fault)
 body_fits order bytes (Err errors.Memory) header ok fault = tt
@@ -170,15 +170,15 @@ told_ok number r b c is ok = subst (λ (x : List ℕ). IfOk r (λ t. IsBody numb
 
 pub fits_body : (order : Endianness) (before left : Option (List ℕ)) (held : List ℕ) (r : Result Trace ReadError)
     → Receives [] held before left → (24 ≤ length held) ⊎ IsAtEnd left
-    → header_fault (number_in order) held ≡ None
+    → header_fault (number_order order) held ≡ None
     → IfOk r (λ t. IfSome (prepend_known (drop 24 held) left)
-    (λ bytes. IsBody (number_in order) bytes t.frames t.skipped (ending_of t.cut)))
-    → IfErr r (λ e. IfSome (prepend_known (drop 24 held) left) (λ bytes. IsBodyFault (number_in order) bytes e))
+    (λ bytes. IsBody (number_order order) bytes t.frames t.skipped (ending_of t.cut)))
+    → IfErr r (λ e. IfSome (prepend_known (drop 24 held) left) (λ bytes. IsBodyFault (number_order order) bytes e))
     → IfSome before (λ bytes. IsAnswer bytes r)
 fits_body order None left held r got filled header ok fault = tt
 fits_body order (Some bytes) None held r got filled header ok fault = absurd got.2
 fits_body order (Some bytes) (Some rest) held r got filled header ok fault =
-    let number = number_in order in
+    let number = number_order order in
     let held_header = IsFileHeader-from_none number held header in
     let whole = IsFileHeader-from_none number bytes (fault_known order held bytes rest got filled ∙ header) in
     let behind : drop 24 held ++ rest ≡ drop 24 bytes = sym (ap (drop 24) (known_parts held bytes rest got)
@@ -187,8 +187,8 @@ fits_body order (Some bytes) (Some rest) held r got filled header ok fault =
     (subst (λ (x : List ℕ). IfErr r (λ e. IsBodyFault number x e)) behind fault)
 
 pub told_header : (T : Type 0) (bytes : List ℕ) (e : ReadError) (n : ℕ) → IsHeaderFault bytes e → TellsFailure {T = T} (Err e) n n
-told_header T bytes errors.Read n h = absurd (header_fault-read (number_in h.0) bytes h.1)
+told_header T bytes errors.Read n h = absurd (header_fault-other (number_order h.0) bytes errors.Read refl h.1)
 told_header T bytes e n h = refl
 
-pub passed_long : (order : Endianness) (held : List ℕ) → header_fault (number_in order) held ≡ None → 24 ≤ length held
-passed_long order held h = (IsFileHeader-from_none (number_in order) held h).long_enough
+pub passed_long : (order : Endianness) (held : List ℕ) → header_fault (number_order order) held ≡ None → 24 ≤ length held
+passed_long order held h = (IsFileHeader-from_none (number_order order) held h).long_enough

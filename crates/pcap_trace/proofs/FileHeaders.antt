@@ -9,7 +9,7 @@ use Rattle.pcap_trace.specs.declared.fault.ReadError.TheVariants as errors
 use Rattle.byteorder.specs.Endian.{big_number, little_number}
 use Rattle.pcap_trace.specs.declared.header.Endianness.{Endianness}
 use Rattle.pcap_trace.specs.declared.header.Endianness.TheVariants.{Big, Little}
-use Rattle.pcap_trace.specs.Format.{Order, number_in, is_magic, IsFileHeader}
+use Rattle.pcap_trace.specs.Format.{Order, number_order, is_magic, IsFileHeader}
 use Rattle.pcap_trace.specs.Reading.{header_fault, IsHeaderFault}
 use Rattle.pcap_trace.proofs.Bodies.{ReadsFirst}
 use Rattle.pcap_trace.proofs.Orders.{both_orders}
@@ -31,21 +31,20 @@ all_pass false true true false e h = absurd cc
 all_pass false true true true false h = absurd cc
 all_pass false true true true true h = (refl, refl, refl, refl, refl)
 
-never_record : (a b c d e : Bool) → first_fault a b c d e ≡ Some errors.Record → ⊥
-never_record true b c d e h = cc
-never_record false false c d e h = cc
-never_record false true false d e h = cc
-never_record false true true false e h = cc
-never_record false true true true false h = cc
-never_record false true true true true h = cc
+-- whether a file header can have this fault, or none
+abbrev pub is_of_header : Option ReadError → Bool
+is_of_header (Some errors.Record) = false
+is_of_header (Some errors.Memory) = false
+is_of_header (Some errors.Read) = false
+is_of_header _ = true
 
-never_read : (a b c d e : Bool) → first_fault a b c d e ≡ Some errors.Read → ⊥
-never_read true b c d e h = cc
-never_read false false c d e h = cc
-never_read false true false d e h = cc
-never_read false true true false e h = cc
-never_read false true true true false h = cc
-never_read false true true true true h = cc
+first_of_header : (a b c d e : Bool) → is_of_header (first_fault a b c d e) ≡ true
+first_of_header true b c d e = refl
+first_of_header false false c d e = refl
+first_of_header false true false d e = refl
+first_of_header false true true false e = refl
+first_of_header false true true true false = refl
+first_of_header false true true true true = refl
 
 -- the first fault in one byte order if the first word is a magic number in this order, otherwise the first fault in the other order
 abbrev told : Bool → Bool → Bool → Bool → Bool → Bool → Bool → Bool → Bool → Option ReadError
@@ -72,12 +71,12 @@ told_same false x y z p q = q
 abbrev pub told_fault : List ℕ → Option ReadError
 told_fault bytes = if is_magic (little_number 4 bytes) then header_fault little_number bytes else header_fault big_number bytes
 
-pub told_fault-magic : (bytes : List ℕ) → ((order : Endianness) → header_fault (number_in order) bytes ≡ Some errors.Magic)
+pub told_fault-magic : (bytes : List ℕ) → ((order : Endianness) → header_fault (number_order order) bytes ≡ Some errors.Magic)
     → told_fault bytes ≡ Some errors.Magic
 told_fault-magic bytes h = told_same (is_magic (little_number 4 bytes)) (header_fault little_number bytes) (header_fault big_number bytes)
     (Some errors.Magic) (h Little) (h Big)
 
-pub told_fault-in : (order : Endianness) (bytes : List ℕ) (x : Option ReadError) → header_fault (number_in order) bytes ≡ x
+pub told_fault-in : (order : Endianness) (bytes : List ℕ) (x : Option ReadError) → header_fault (number_order order) bytes ≡ x
     → (x ≡ Some errors.Magic → ⊥) → told_fault bytes ≡ x
 told_fault-in Little bytes x is other =
     told_first (nat_lt (length bytes) 24) (is_magic (little_number 4 bytes)) (little_number 2 (drop 4 bytes) == 2)
@@ -91,19 +90,17 @@ told_fault-in Big bytes x is other =
     (big_number 4 (drop 20 bytes) == 1) x (both_orders bytes) is other
 
 pub header_fault-in : (order : Endianness) (bytes : List ℕ) (e : ReadError) → (e ≡ errors.Magic → ⊥)
-    → header_fault (number_in order) bytes ≡ Some e → IsHeaderFault bytes e
+    → header_fault (number_order order) bytes ≡ Some e → IsHeaderFault bytes e
 header_fault-in order bytes errors.Magic other is = absurd (other refl)
 header_fault-in order bytes e other is = (order, is)
 
-pub header_fault-record : (number : Order) (bytes : List ℕ) → header_fault number bytes ≡ Some errors.Record → ⊥
-header_fault-record number bytes h =
-    never_record (nat_lt (length bytes) 24) (is_magic (number 4 bytes)) (number 2 (drop 4 bytes) == 2) (number 2 (drop 6 bytes) == 4)
-    (number 4 (drop 20 bytes) == 1) h
-
-pub header_fault-read : (number : Order) (bytes : List ℕ) → header_fault number bytes ≡ Some errors.Read → ⊥
-header_fault-read number bytes h =
-    never_read (nat_lt (length bytes) 24) (is_magic (number 4 bytes)) (number 2 (drop 4 bytes) == 2) (number 2 (drop 6 bytes) == 4)
-    (number 4 (drop 20 bytes) == 1) h
+pub header_fault-other : (number : Order) (bytes : List ℕ) (e : ReadError) → is_of_header (Some e) ≡ false
+    → header_fault number bytes ≡ Some e → ⊥
+header_fault-other number bytes e other h =
+    let is : is_of_header (header_fault number bytes) ≡ true = first_of_header (nat_lt (length bytes) 24) (is_magic (number 4 bytes))
+    (number 2 (drop 4 bytes) == 2) (number 2 (drop 6 bytes) == 4) (number 4 (drop 20 bytes) == 1) in
+    let known : is_of_header (Some e) ≡ true = sym (ap is_of_header h) ∙ is in
+    cc
 
 pub IsFileHeader-from_none : (number : Order) (bytes : List ℕ) → header_fault number bytes ≡ None → IsFileHeader number bytes
 IsFileHeader-from_none number bytes h =

@@ -43,36 +43,42 @@ text_within : (n : ℕ) (held left : List ℕ) → 16 + n ≤ length held → ta
 text_within n held left long =
     ap (take n) (drop-append-le 16 held left (omega arith)) ∙ take-append-le n (drop 16 held) left (omega (arith, length-drop 16 held))
 
+-- a step over a packet of n captured bytes at the front of the block, for bytes that may be unknown
+passed : (number : Order) (a left : Option (List ℕ)) (held : List ℕ) (frames more : List (List ℕ)) (skipped others n : ℕ) → 16 + n ≤ length held
+    → ((bytes left : List ℕ) → GoesOn number bytes (held ++ left) frames skipped
+    → GoesOn number bytes (drop n (drop 16 (held ++ left))) more others)
+    → GoesOnKnown number a (prepend_known held left) frames skipped
+    → GoesOnKnown number a (prepend_known (drop (16 + n) held) left) more others
+passed number None left held frames more skipped others n long step so_far = tt
+passed number (Some bytes) None held frames more skipped others n long step so_far = absurd so_far
+passed number (Some bytes) (Some left) held frames more skipped others n long step so_far =
+    subst (λ (x : List ℕ). GoesOn number bytes x more others) (rest_behind n held left long) (step bytes left so_far)
+
 pub GoesOnKnown-kept : (number : Order) → ReadsFirst number
     → (a left : Option (List ℕ)) (held : List ℕ) (frames : List (List ℕ)) (skipped n : ℕ) → n ≡ captured_length number held
     → n ≤ most_captured
     → 16 + n ≤ length held → original_length number held ≤ n → GoesOnKnown number a (prepend_known held left) frames skipped
     → GoesOnKnown number a (prepend_known (drop (16 + n) held) left) (frames ++ take n (drop 16 held) ∷ []) skipped
-GoesOnKnown-kept number first None left held frames skipped n told short long all so_far = tt
-GoesOnKnown-kept number first (Some bytes) None held frames skipped n told short long all so_far = absurd so_far
-GoesOnKnown-kept number first (Some bytes) (Some left) held frames skipped n told short long all so_far =
-    let rest = held ++ left in
-    let at8 = word-append number first 8 held left (omega arith) in
-    let at12 = word-append number first 12 held left (omega arith) in
-    let next = GoesOn-kept number first bytes rest frames skipped n (told
-    ∙ sym at8) short (omega (arith, length-append held left)) (omega (arith, at12)) so_far in
-    subst (λ (x : List ℕ). GoesOn number bytes x (frames ++ take n (drop 16 held) ∷ []) skipped) (rest_behind n held left long)
-    (subst (λ (t : List ℕ). GoesOn number bytes (drop n (drop 16 rest)) (frames ++ t ∷ []) skipped) (text_within n held left long) next)
+GoesOnKnown-kept number first a left held frames skipped n told short long all =
+    passed number a left held frames (frames ++ take n (drop 16 held) ∷ []) skipped skipped n long (λ bytes after so_far.
+    let at8 = word-append number first 8 held after (omega arith) in
+    let at12 = word-append number first 12 held after (omega arith) in
+    let next = GoesOn-kept number first bytes (held ++ after) frames skipped n (told ∙ sym at8) short
+    (omega (arith, length-append held after)) (omega (arith, at12)) so_far in
+    subst (λ (t : List ℕ). GoesOn number bytes (drop n (drop 16 (held ++ after))) (frames ++ t ∷ []) skipped)
+    (text_within n held after long) next)
 
 pub GoesOnKnown-skipped : (number : Order) → ReadsFirst number
     → (a left : Option (List ℕ)) (held : List ℕ) (frames : List (List ℕ)) (skipped n : ℕ) → n ≡ captured_length number held
     → n ≤ most_captured
     → 16 + n ≤ length held → n < original_length number held → GoesOnKnown number a (prepend_known held left) frames skipped
     → GoesOnKnown number a (prepend_known (drop (16 + n) held) left) frames (skipped + 1)
-GoesOnKnown-skipped number first None left held frames skipped n told short long some so_far = tt
-GoesOnKnown-skipped number first (Some bytes) None held frames skipped n told short long some so_far = absurd so_far
-GoesOnKnown-skipped number first (Some bytes) (Some left) held frames skipped n told short long some so_far =
-    let rest = held ++ left in
-    let at8 = word-append number first 8 held left (omega arith) in
-    let at12 = word-append number first 12 held left (omega arith) in
-    let next = GoesOn-skipped number first bytes rest frames skipped n (told
-    ∙ sym at8) short (omega (arith, length-append held left)) (omega (arith, at12)) so_far in
-    subst (λ (x : List ℕ). GoesOn number bytes x frames (skipped + 1)) (rest_behind n held left long) next
+GoesOnKnown-skipped number first a left held frames skipped n told short long some =
+    passed number a left held frames frames skipped (skipped + 1) n long (λ bytes after.
+    let at8 = word-append number first 8 held after (omega arith) in
+    let at12 = word-append number first 12 held after (omega arith) in
+    GoesOn-skipped number first bytes (held ++ after) frames skipped n (told ∙ sym at8) short
+    (omega (arith, length-append held after)) (omega (arith, at12)))
 
 -- ---- the end
 

@@ -6,10 +6,10 @@ use Rattle.byteorder.specs.Endian.{big_number, little_number}
 use Rattle.byteorder.specs.Numbers.{big_from-append, little_from-append}
 use Rattle.pcap_trace.specs.declared.header.Endianness.{Endianness}
 use Rattle.pcap_trace.specs.declared.header.Endianness.TheVariants.{Big, Little}
-use Rattle.pcap_trace.specs.Format.{number_in, microseconds_magic, nanoseconds_magic, is_magic}
+use Rattle.pcap_trace.specs.Format.{number_order, microseconds_magic, nanoseconds_magic, is_magic}
 use Rattle.pcap_trace.proofs.Bodies.{ReadsFirst}
 
-pub number_first : (order : Endianness) → ReadsFirst (number_in order)
+pub number_first : (order : Endianness) → ReadsFirst (number_order order)
 number_first Big n xs ys long = big_from-append n xs ys long
 number_first Little n xs ys long = little_from-append n xs ys long
 
@@ -37,7 +37,7 @@ both_orders bytes little big =
     (big_number 4 bytes) (omega arith) (omega arith)
     (magic_cases (little_number 4 bytes) little) (magic_cases (big_number 4 bytes) big)
 
-pub one_order : (bytes : List ℕ) (o p : Endianness) → IsTrue (is_magic (number_in o 4 bytes)) → IsTrue (is_magic (number_in p 4 bytes))
+pub one_order : (bytes : List ℕ) (o p : Endianness) → IsTrue (is_magic (number_order o 4 bytes)) → IsTrue (is_magic (number_order p 4 bytes))
     → o ≡ p
 one_order bytes Big Big m n = refl
 one_order bytes Little Little m n = refl

@@ -4,7 +4,7 @@ use Rattle.std.proofs.Common.{arith}
 use Rattle.std.specs.List.{flat_map, AllByRecursion}
 use Rattle.std.proofs.lemmas.List.{take_at, drop_at, length-append}
 use Rattle.std.proofs.lemmas.List.Concat.{flat_map-cons}
-use Rattle.pcap_trace.specs.Format.{Order, Packet, Ending, complete, cut_off, oversized, captured_length, packet_bytes, IsPacket, frames_of}
+use Rattle.pcap_trace.specs.Format.{Order, Packet, Ending, complete, cut_off, oversized, captured_length, packet_bytes, IsPacket, untruncated_frames}
 use Rattle.pcap_trace.specs.Format.{skipped_of, IsRest, IsBody}
 use Rattle.pcap_trace.proofs.Bodies.{ReadsFirst, word-append}
 
@@ -78,7 +78,7 @@ pub body_unique : (number : Order) → ReadsFirst number → (bytes : List ℕ) 
     → IsBody number bytes fs m e → IsBody number bytes gs n f → (fs ≡ gs) × (m ≡ n) × (e ≡ f)
 body_unique number first bytes fs gs m n e f p q =
     let same = parts_unique number first p.packets q.packets p.rest q.rest e f p.whole q.whole p.ends q.ends (sym p.parts ∙ q.parts) in (
-      p.frames_are ∙ ap (frames_of number) same.0 ∙ sym q.frames_are,
+      p.frames_are ∙ ap (untruncated_frames number) same.0 ∙ sym q.frames_are,
       p.skipped_are ∙ ap (skipped_of number) same.0 ∙ sym q.skipped_are,
       ending_unique number p.rest e f p.ends (subst (λ (x : List ℕ). IsRest number x f) (sym same.1) q.ends),
     )

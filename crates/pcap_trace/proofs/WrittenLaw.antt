@@ -11,9 +11,9 @@ use Rattle.pcap_trace.specs.declared.header.Endianness.{Endianness}
 use Rattle.pcap_trace.specs.declared.header.Endianness.TheVariants.{Little}
 use Rattle.pcap_trace.specs.declared.unit.Unit.{Unit}
 use Rattle.pcap_trace.specs.declared.unit.Unit.TheVariants.{Micros, Nanos}
-use Rattle.pcap_trace.specs.Format.{number_in, is_magic, Packet, Timed, complete, captured_length, original_length, packet_bytes, IsPacket}
-use Rattle.pcap_trace.specs.Format.{is_partial, frames_of, skipped_of, ending_of, IsTraceIn, file_header, packet_header, packet_of, written}
-use Rattle.pcap_trace.specs.Format.{frame_of, IsShort, WrittenIsTrace, WrittenIsNoOther}
+use Rattle.pcap_trace.specs.Format.{number_order, is_magic, Packet, Timed, complete, captured_length, original_length, packet_bytes, IsPacket}
+use Rattle.pcap_trace.specs.Format.{is_partial, untruncated_frames, skipped_of, ending_of, IsTraceIn, file_header, packet_header, packet_of, written}
+use Rattle.pcap_trace.specs.Format.{timed_frame, IsShort, WrittenIsTrace, WrittenIsNoOther}
 use Rattle.pcap_trace.proofs.Orders.{number_first, one_order}
 use Rattle.pcap_trace.proofs.Unique.{body_unique}
 
@@ -52,7 +52,7 @@ packet-kept unit t short =
     le-ltb _ _ (omega (arith, a, b))
 
 frames_of-written : (unit : Unit) (ts : List Timed) → AllByRecursion IsShort ts
-    → map frame_of ts ≡ frames_of little_number (map (written_packet unit) ts)
+    → map timed_frame ts ≡ untruncated_frames little_number (map (written_packet unit) ts)
 frames_of-written unit [] short = refl
 frames_of-written unit (t ∷ ts) short =
     rw (packet-kept unit t short.0) (ap (λ (fs : List (List ℕ)). t.frame ∷ fs) (frames_of-written unit ts short.1))
@@ -100,7 +100,7 @@ unfolding file_header found
 no_other unit ts frames skipped cut short t =
     let is_little : t.0 ≡ Little = one_order (written unit ts) t.0 Little t.1.0.magic_is (found unit ts short).1.0.magic_is in
     let moved : IsTraceIn little_number (written unit ts) frames skipped cut = subst
-    (λ (o : Endianness). IsTraceIn (number_in o) (written unit ts) frames skipped cut) is_little t.1 in
-    let same = body_unique little_number (number_first Little) (drop 24 (written unit ts)) frames (map frame_of ts) skipped 0
+    (λ (o : Endianness). IsTraceIn (number_order o) (written unit ts) frames skipped cut) is_little t.1 in
+    let same = body_unique little_number (number_first Little) (drop 24 (written unit ts)) frames (map timed_frame ts) skipped 0
     (ending_of cut) complete moved.1 (found unit ts short).1.1 in
     (same.0, same.1, complete_uncut cut same.2)

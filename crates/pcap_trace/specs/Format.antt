@@ -14,9 +14,9 @@ abbrev pub Order : Type 0
 Order = ℕ → List ℕ → ℕ
 
 -- In `Big`, the highest byte of a number is first; in `Little`, the lowest byte. A trace has the byte order of the machine that wrote it.
-abbrev pub number_in : Endianness → Order
-number_in Big = big_number
-number_in Little = little_number
+abbrev pub number_order : Endianness → Order
+number_order Big = big_number
+number_order Little = little_number
 
 -- ---- the file header (pcap-savefile, "File Header")
 
@@ -71,9 +71,9 @@ abbrev pub is_partial : Order → Packet → Bool
 is_partial number p = nat_lt (captured_length number p.header) (original_length number p.header)
 
 -- the frames: the captured bytes of the packets that aren't truncated, in order
-abbrev pub frames_of : Order → List Packet → List (List ℕ)
-frames_of number [] = []
-frames_of number (p ∷ ps) = if is_partial number p then frames_of number ps else p.captured ∷ frames_of number ps
+abbrev pub untruncated_frames : Order → List Packet → List (List ℕ)
+untruncated_frames number [] = []
+untruncated_frames number (p ∷ ps) = if is_partial number p then untruncated_frames number ps else p.captured ∷ untruncated_frames number ps
 
 -- the number of truncated packets, which are skipped
 abbrev pub skipped_of : Order → List Packet → ℕ
@@ -103,7 +103,7 @@ pub record IsBody (number : Order) (bytes : List ℕ) (frames : List (List ℕ))
   pub rest : List ℕ
   pub parts : bytes ≡ flat_map packet_bytes packets ++ rest
   pub whole : AllByRecursion (IsPacket number) packets
-  pub frames_are : frames ≡ frames_of number packets
+  pub frames_are : frames ≡ untruncated_frames number packets
   pub skipped_are : skipped ≡ skipped_of number packets
   pub ends : IsRest number rest ending
 
@@ -120,7 +120,7 @@ IsTraceIn number bytes frames skipped cut = IsFileHeader number bytes × IsBody 
 
 -- These bytes are such a trace in one of the two byte orders.
 abbrev pub IsTrace : List ℕ → List (List ℕ) → ℕ → Bool → Type 0
-IsTrace bytes frames skipped cut = (order : Endianness) × IsTraceIn (number_in order) bytes frames skipped cut
+IsTrace bytes frames skipped cut = (order : Endianness) × IsTraceIn (number_order order) bytes frames skipped cut
 
 -- ---- the written form
 
@@ -131,8 +131,8 @@ pub record Timed : Type 0 where
   -- its bytes
   pub frame : List ℕ
 
-abbrev pub frame_of : Timed → List ℕ
-frame_of t = t.frame
+abbrev pub timed_frame : Timed → List ℕ
+timed_frame t = t.frame
 
 -- the frame with its time that a pair contains
 abbrev pub timed : ℕ × List ℕ → Timed
@@ -173,11 +173,11 @@ IsShort t = length t.frame ≤ most_captured
 -- If each frame has at most `most_captured` bytes, the bytes written are a trace of these frames: no packet is skipped, and the end isn't
 -- cut off.
 abbrev pub WrittenIsTrace : Type 0
-WrittenIsTrace = (unit : Unit) (ts : List Timed) → AllByRecursion IsShort ts → IsTrace (written unit ts) (map frame_of ts) 0 false
+WrittenIsTrace = (unit : Unit) (ts : List Timed) → AllByRecursion IsShort ts → IsTrace (written unit ts) (map timed_frame ts) 0 false
 
 -- If each frame has at most `most_captured` bytes, the bytes written are a trace of no other frames, and with no other values of `skipped`
 -- and `cut`.
 abbrev pub WrittenIsNoOther : Type 0
 WrittenIsNoOther =
     (unit : Unit) (ts : List Timed) (frames : List (List ℕ)) (skipped : ℕ) (cut : Bool)
-    → AllByRecursion IsShort ts → IsTrace (written unit ts) frames skipped cut → (frames ≡ map frame_of ts) × (skipped ≡ 0) × (cut ≡ false)
+    → AllByRecursion IsShort ts → IsTrace (written unit ts) frames skipped cut → (frames ≡ map timed_frame ts) × (skipped ≡ 0) × (cut ≡ false)

@@ -5,7 +5,7 @@ use Rattle.pcap_trace.specs.declared.fault.ReadError.{ReadError}
 use Rattle.pcap_trace.specs.declared.fault.ReadError.TheVariants as errors
 use Rattle.pcap_trace.specs.declared.header.Endianness.{Endianness}
 use Rattle.pcap_trace.specs.declared.trace.Trace.{Trace}
-use Rattle.pcap_trace.specs.Format.{Order, number_in, is_magic, oversized, IsFileHeader, IsBody, IsTrace}
+use Rattle.pcap_trace.specs.Format.{Order, number_order, is_magic, oversized, IsFileHeader, IsBody, IsTrace}
 
 -- The fault of a file header whose numbers are in this byte order: the first that applies, or none. (pcap-savefile, "File Header"; which
 -- fault is first: our choice)
@@ -20,8 +20,8 @@ header_fault number bytes =
 -- The error is a fault of the file header that the bytes begin with: `Magic` in both byte orders, any other error in at least one byte
 -- order. (our choice)
 abbrev pub IsHeaderFault : List ℕ → ReadError → Type 0
-IsHeaderFault bytes errors.Magic = (order : Endianness) → header_fault (number_in order) bytes ≡ Some errors.Magic
-IsHeaderFault bytes e = (order : Endianness) × (header_fault (number_in order) bytes ≡ Some e)
+IsHeaderFault bytes errors.Magic = (order : Endianness) → header_fault (number_order order) bytes ≡ Some errors.Magic
+IsHeaderFault bytes e = (order : Endianness) × (header_fault (number_order order) bytes ≡ Some e)
 
 -- After complete packets, or at the beginning, a complete packet header has a captured length that is too large. (our choice)
 abbrev pub HasOversized : Order → List ℕ → Type 0
@@ -31,8 +31,8 @@ HasOversized number bytes = (frames : List (List ℕ)) × (skipped : ℕ) × IsB
 -- captured length follow. `Memory` and `Read` fit any bytes. Another error fits if it is a fault of the file header. (our choice)
 abbrev pub IsAnswer : List ℕ → Result Trace ReadError → Type 0
 IsAnswer bytes (Ok t) = IsTrace bytes t.frames t.skipped t.cut
-IsAnswer bytes (Err errors.Record) = (order : Endianness) × IsFileHeader (number_in order) bytes
-    × HasOversized (number_in order) (drop 24 bytes)
+IsAnswer bytes (Err errors.Record) = (order : Endianness) × IsFileHeader (number_order order) bytes
+    × HasOversized (number_order order) (drop 24 bytes)
 IsAnswer bytes (Err errors.Memory) = ⊤
 IsAnswer bytes (Err errors.Read) = ⊤
 IsAnswer bytes (Err e) = IsHeaderFault bytes e

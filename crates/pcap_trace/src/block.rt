@@ -17,8 +17,11 @@ const ROOM: usize = 327_696;
 /// Bytes that were read from a source and not used yet. In contracts, the value is the list of these bytes.
 #[derive(Drop)]
 pub struct Block {
+    /// The block's memory, of [`ROOM`] bytes.
     bytes: Vec<u8>,
+    /// The place of the first byte that wasn't used yet.
     start: usize,
+    /// The place after the last byte that was read.
     end: usize,
 }
 
@@ -47,7 +50,7 @@ fn read_behind<S: Source>(
         (λ n. Consumes (S.left source.old) (S.left source.new) (slice_range bytes.new end (end + n))) }
     ensures used { Uses (S.left source.old) (S.left source.new) }
     ensures at_end { IfOk result (λ n. n ≡ 0 → IsAtEnd (S.left source.new)) }
-    ensures limit { IfOk result (λ n. S.most source.new + n ≤ S.most source.old) }
+    ensures limit { IfOk result (λ n. S.limit source.new + n ≤ S.limit source.old) }
     ensures failures { CountsFailures result (S.failures source.old) (S.failures source.new) }
 {
     let room = CHUNK.min(bytes.len() - end);
@@ -98,7 +101,7 @@ impl Block {
         ensures used { Uses (S.left source.old) (S.left source.new) }
         ensures more { IfOk result (λ n. length self.new ≡ length self.old + n) }
         ensures at_end { IfOk result (λ n. n ≡ 0 → IsAtEnd (S.left source.new)) }
-        ensures limit { IfOk result (λ n. S.most source.new + n ≤ S.most source.old) }
+        ensures limit { IfOk result (λ n. S.limit source.new + n ≤ S.limit source.old) }
         ensures failures { CountsFailures result (S.failures source.old) (S.failures source.new) }
     {
         self.bytes.copy_within(self.start..self.end, 0);
@@ -124,7 +127,7 @@ impl Block {
         ensures received { OnOk result (Receives self.old self.new (S.left source.old) (S.left source.new)) }
         ensures used { Uses (S.left source.old) (S.left source.new) }
         ensures filled { OnOk result ((want ≤ length self.new) ⊎ IsAtEnd (S.left source.new)) }
-        ensures limit { OnOk result (length self.new + S.most source.new ≤ length self.old + S.most source.old) }
+        ensures limit { OnOk result (length self.new + S.limit source.new ≤ length self.old + S.limit source.old) }
         ensures failures { CountsFailures result (S.failures source.old) (S.failures source.new) }
     {
         if want <= self.end - self.start {
@@ -142,7 +145,7 @@ impl Block {
         ensures received { OnOk result (Receives self.old self.new (S.left source.old) (S.left source.new)) }
         ensures used { Uses (S.left source.old) (S.left source.new) }
         ensures filled { OnOk result ((want ≤ length self.new) ⊎ IsAtEnd (S.left source.new)) }
-        ensures limit { OnOk result (length self.new + S.most source.new ≤ length self.old + S.most source.old) }
+        ensures limit { OnOk result (length self.new + S.limit source.new ≤ length self.old + S.limit source.old) }
         ensures failures { CountsFailures result (S.failures source.old) (S.failures source.new) }
     {
         while self.held().len() < want {

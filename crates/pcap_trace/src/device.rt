@@ -18,7 +18,7 @@ pub trait Source {
     ghost left: { Self → Option (List ℕ) };
 
     /// The maximum number of bytes that the source can still return.
-    ghost most: { Self → ℕ };
+    ghost limit: { Self → ℕ };
 
     /// The number of times the source has failed.
     ghost failures: { Self → ℕ };
@@ -31,15 +31,15 @@ pub trait Source {
     fn read(&mut self, into: &mut [u8]) -> Result<usize, DeviceError>
         requires { failures self.old < u64.MAX }
         ensures count { IfOk result (λ n. n ≤ length into.old) }
-        ensures limit { MatchResult result (λ n. most self.new + n ≤ most self.old)
-            (λ _. most self.new ≤ most self.old) }
+        ensures limit { MatchResult result (λ n. limit self.new + n ≤ limit self.old)
+            (λ _. limit self.new ≤ limit self.old) }
         ensures bytes { ReadConsumes (left self.old) (left self.new) result into.new }
         ensures failures { CountsFailures result (failures self.old) (failures self.new) };
 
     /// Returns the maximum number of bytes that the source can still return. A read lowers this number by at least the
     /// number of bytes read.
     fn limit(&self) -> u64
-        ensures { result ≡ most self.now };
+        ensures { result ≡ limit self.now };
 
     /// Returns the number of times the source has failed.
     fn failures(&self) -> u64

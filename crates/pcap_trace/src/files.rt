@@ -18,7 +18,7 @@ impl<R: Read> ReaderSource<R> {
     /// Returns a source of the first `limit` bytes of a reader, or of all bytes if the reader has fewer.
     pub fn new(reader: R, limit: u64) -> Self
         ensures left { ⟦<ReaderSource<R> as Source>⟧.left result ≡ first_of limit (R.remaining reader) }
-        ensures most { ⟦<ReaderSource<R> as Source>⟧.most result ≡ limit }
+        ensures limit { ⟦<ReaderSource<R> as Source>⟧.limit result ≡ limit }
         ensures failures { ⟦<ReaderSource<R> as Source>⟧.failures result ≡ 0 }
     {
         ReaderSource {
@@ -32,7 +32,7 @@ impl<R: Read> ReaderSource<R> {
 impl<R: Read> Source for ReaderSource<R> {
     ghost left = { λ s. first_of s.limit (R.remaining s.reader) };
 
-    ghost most = { λ s. s.limit };
+    ghost limit = { λ s. s.limit };
 
     ghost failures = { λ s. s.failures };
 

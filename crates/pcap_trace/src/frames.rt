@@ -1,7 +1,7 @@
 //! Frames in one buffer, one after the other.
 ghost use Rattle.std.specs.Prelude.{◌≡◌, ◌<◌, ◌≤◌, ◌^◌, ◌++◌, ◌∷◌, ◌↔◌, [], List, ℕ, length, sum, IsTrue, OnOk, OnErr};
 ghost use Rattle.std.specs.Iterator.{at_most, YieldsFirstRef};
-ghost use Rattle.pcap_trace.specs.Frames.{cut};
+ghost use Rattle.pcap_trace.specs.Frames.{cut_into};
 
 use std::alloc::{AllocError, Global};
 use std::marker::Model;
@@ -13,14 +13,16 @@ use std::marker::Model;
 /// each.
 #[derive(Drop)]
 pub struct Frames {
+    /// The bytes of all frames, one frame after the other.
     bytes: Vec<u8>,
+    /// The length of each frame.
     lengths: Vec<u32>,
 }
 
 impl Model for Frames {
     ghost Value = { List (List ℕ) };
 
-    ghost view = { λ f. cut f.lengths.items f.bytes.items };
+    ghost view = { λ f. cut_into f.lengths.items f.bytes.items };
 
     ghost invariant = { λ f. sum f.lengths.items ≡ length f.bytes.items };
 }
@@ -102,7 +104,7 @@ pub struct Iter<'a> {
 impl<'a> Model for Iter<'a> {
     ghost Value = { List (List ℕ) };
 
-    ghost view = { λ i. cut i.lengths.now i.bytes.now };
+    ghost view = { λ i. cut_into i.lengths.now i.bytes.now };
 
     ghost invariant = { λ i. sum i.lengths.now ≡ length i.bytes.now };
 }

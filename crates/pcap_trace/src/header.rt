@@ -1,6 +1,6 @@
 //! The file header of a trace, as it is read (libpcap, "pcap-savefile", File Header).
 ghost use Rattle.std.specs.Prelude.{◌≡◌, IfOk, IfErr, MatchResult, Some, None};
-ghost use Rattle.pcap_trace.specs.Format.{is_magic, number_in};
+ghost use Rattle.pcap_trace.specs.Format.{is_magic, number_order};
 ghost use Rattle.pcap_trace.specs.Reading.{header_fault, IsHeaderFault};
 
 use crate::fault::ReadError;
@@ -51,7 +51,7 @@ fn check_header<T: ByteOrder>(bytes: &[u8]) -> Result<(), ReadError>
 /// [`Version`](ReadError::Version) and [`LinkType`](ReadError::LinkType). `Magic` is returned only if neither byte
 /// order has a magic number.
 pub fn byte_order(bytes: &[u8]) -> Result<Endianness, ReadError>
-    ensures ok { IfOk result (λ order. header_fault (number_in order) bytes.now ≡ None) }
+    ensures ok { IfOk result (λ order. header_fault (number_order order) bytes.now ≡ None) }
     ensures fault { IfErr result (λ e. IsHeaderFault bytes.now e) }
 {
     match check_header::<LittleEndian>(bytes) {

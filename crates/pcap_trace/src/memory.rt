@@ -14,7 +14,7 @@ impl<'a> SliceSource<'a> {
     /// Returns a source of these bytes.
     pub fn new(bytes: &'a [u8]) -> Self
         ensures left { ⟦<SliceSource<'a> as Source>⟧.left result ≡ Some bytes.now }
-        ensures most { ⟦<SliceSource<'a> as Source>⟧.most result ≡ length bytes.now }
+        ensures limit { ⟦<SliceSource<'a> as Source>⟧.limit result ≡ length bytes.now }
         ensures failures { ⟦<SliceSource<'a> as Source>⟧.failures result ≡ 0 }
     {
         SliceSource { bytes }
@@ -24,7 +24,7 @@ impl<'a> SliceSource<'a> {
 impl<'a> Source for SliceSource<'a> {
     ghost left = { λ s. Some s.bytes.now };
 
-    ghost most = { λ s. length s.bytes.now };
+    ghost limit = { λ s. length s.bytes.now };
 
     ghost failures = { λ _. 0 };
 

@@ -1,7 +1,7 @@
 //! Traces read from a source.
 ghost use Rattle.std.specs.Prelude.{◌≡◌, ◌<◌, ◌≤◌, ◌+◌, [], length, IfOk, IfErr, IfSome, IfNone, OnOk, OnSome};
 ghost use Rattle.std.specs.Io.KnownBytes.{IsAtEnd, prepend_known};
-ghost use Rattle.pcap_trace.specs.Format.{IsBody, ending_of, captured_length, number_in, original_length};
+ghost use Rattle.pcap_trace.specs.Format.{IsBody, ending_of, captured_length, number_order, original_length};
 ghost use Rattle.pcap_trace.specs.Devices.{Uses};
 ghost use Rattle.pcap_trace.specs.Reading.{IsAnswer, IsOnlyAnswer, IsBodyFault, TellsFailure};
 
@@ -103,9 +103,9 @@ fn read_body_in<S: Source>(
     requires small { length block.old ≤ 327696 }
     ensures ok { IfOk result
         (λ t. IfSome (prepend_known block.old (S.left source.old))
-        (λ bytes. IsBody (number_in order) bytes t.frames t.skipped (ending_of t.cut))) }
+        (λ bytes. IsBody (number_order order) bytes t.frames t.skipped (ending_of t.cut))) }
     ensures fault { IfErr result
-        (λ e. IfSome (prepend_known block.old (S.left source.old)) (λ bytes. IsBodyFault (number_in order) bytes e)) }
+        (λ e. IfSome (prepend_known block.old (S.left source.old)) (λ bytes. IsBodyFault (number_order order) bytes e)) }
     ensures failure { TellsFailure result (S.failures source.old) (S.failures source.new) }
     ensures end { OnOk result (IsAtEnd (S.left source.new)) }
     ensures used { Uses (S.left source.old) (S.left source.new) }

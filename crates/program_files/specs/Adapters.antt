@@ -11,10 +11,6 @@ use Rattle.command_line.specs.declared.job.ServeImage.{ServeImage}
 use Rattle.command_line.specs.declared.job.ServeImage.TheVariants.{Address, File}
 use Rattle.command_line.specs.declared.job.ServeJob.{ServeJob}
 
--- the texts of words in memory
-abbrev pub texts : List (Bor Text) → List Text
-texts words = map (λ (word : Bor Text). word.now) words
-
 -- the words of the program that run `serve` with these options
 abbrev pub serve_words : List Text → List Text
 serve_words options = codes "nicbench" ∷ codes "serve" ∷ options
@@ -44,9 +40,9 @@ HasAdapterOf job (Drive asked) = ⊥
 
 -- The result is true only if the words define the adapter of the job. It is false only if the words or a value in them are invalid, or if
 -- the words define another adapter, or a job of another subcommand.
-abbrev pub IsAnswer : List Text → ServeJob → Bool → Type 0
-IsAnswer words job true = (asked : Job) × IsAskedBy words asked × HasAdapterOf job asked
-IsAnswer words job false =
+abbrev pub IsSameAdapterAnswer : List Text → ServeJob → Bool → Type 0
+IsSameAdapterAnswer words job true = (asked : Job) × IsAskedBy words asked × HasAdapterOf job asked
+IsSameAdapterAnswer words job false =
     ¬ (refusals words ≡ [])
     ⊎ (((value : InvalidValue) × IsRefusedIn words value)
     ⊎ ((asked : Job) × IsAskedBy words asked × ¬ HasAdapterOf job asked))

@@ -4,6 +4,7 @@ ghost use Rattle.program_files.specs.declared.file_error.FileError.TheVariants a
 
 use pcap_trace::ReadError;
 use std::alloc::{AllocError, AllocFailed, Global};
+use step_schedules::ScheduleError;
 
 /// Why an input or an output can't be used.
 #[derive(Drop)]
@@ -17,6 +18,12 @@ pub enum FileError {
     TraceMemory,
     /// Standard input or a pipe has more than 1 GiB.
     Pipe,
+    /// The file of a schedule doesn't contain a schedule.
+    Schedule(ScheduleError),
+    /// The schedule is for an adapter with other options.
+    OtherOptions,
+    /// The recorded schedule can't be written.
+    Write,
     /// Memory was refused, but not while a trace was read.
     Memory,
 }
@@ -39,6 +46,14 @@ impl FileError {
             (error, Ok(path)) => FileError::Input(error, path),
             (_, Err(_)) => FileError::Memory,
         }
+    }
+}
+
+impl From<ScheduleError> for FileError {
+    ghost from_gives = { λ error e. e ≡ errors.Schedule error };
+
+    fn from(error: ScheduleError) -> FileError {
+        FileError::Schedule(error)
     }
 }
 

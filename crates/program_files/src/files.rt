@@ -76,7 +76,7 @@ enum Kind {
     Device,
 }
 
-/// Returns the kind of an input.
+/// Returns the kind of an input: a device if it is no file, pipe or folder.
 fn kind_of(metadata: &Metadata) -> Kind {
     let kind = metadata.file_type();
     if kind.is_file() {

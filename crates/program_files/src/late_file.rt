@@ -8,6 +8,7 @@ use std::io::{self, Write};
 #[derive(Drop)]
 pub struct LateFile<F> {
     file: F,
+    /// Whether nothing was written yet, so that the file may still have its old bytes.
     has_old_bytes: bool,
 }
 

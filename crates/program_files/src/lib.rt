@@ -20,7 +20,7 @@ pub use files::{
 pub use late_file::LateFile;
 pub use progress::{Watched, report_play};
 pub use schedule_adapters::is_for;
-pub use schedule_files::{ScheduleFileError, player_of, record_of, store};
+pub use schedule_files::{player_of, record_of, store};
 pub use schedule_words::adapter_options;
 pub use standard_error::StandardError;
 pub use whole_file::{WholeFile, create_whole};

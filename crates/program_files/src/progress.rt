@@ -31,8 +31,11 @@ impl Watched for HostRuntime {
 pub(crate) struct ReportingReader<'a, R, F> {
     rt: &'a R,
     file: F,
+    /// The length of the file in bytes.
     length: u64,
+    /// The number of bytes that were read.
     done: u64,
+    /// Whether the file is long, and standard error a terminal.
     is_reported: bool,
 }
 
@@ -55,6 +58,7 @@ impl<'a, R: Watched, F> ReportingReader<'a, R, F> {
         self.done = self.done.saturating_add(bytes);
         if self.is_reported && before < self.done / step {
             let (done, all) = (self.done / MEBIBYTE, self.length / MEBIBYTE);
+            // A report that can't be written changes nothing.
             let _ = eprintln!(self.rt; "nicbench: read {done} of {all} MiB");
         }
     }
@@ -81,6 +85,7 @@ fn frames_of(traces: &[Trace]) -> u64 {
 pub fn report_play<R: Watched>(rt: &R, traces: &[Trace]) {
     let frames = frames_of(traces);
     if frames >= MANY_FRAMES && rt.is_watched() {
+        // A report that can't be written changes nothing.
         let _ = eprintln!(rt; "nicbench: playing the scenario, which feeds {frames} frames");
     }
 }

@@ -2,6 +2,7 @@
 ghost use Rattle.std.specs.Prelude.{◌≡◌, ◌≢◌, ◌↔◌, IfOk, IsTrue, false, map, string_bytes};
 ghost use Rattle.command_line.specs.declared.error.LineError.TheVariants.{Memory};
 ghost use Rattle.program_files.specs.Adapters as spec;
+ghost use Rattle.text.specs.Words.{texts};
 
 use command_line::{Job, LineError, ServeJob, line};
 use std::alloc::{AllocError, Global};
@@ -30,7 +31,7 @@ fn has_adapter_of(asked: &Job<'_>, job: &ServeJob<'_>) -> bool
 
 /// Returns the words of `serve` with these options.
 fn serve_words<'a>(alloc: Global, options: &'a [String]) -> Result<Vec<&'a str>, AllocError>
-    ensures { IfOk result (λ words. spec.texts words.items ≡ spec.serve_words (map string_bytes options.entry.now)) }
+    ensures { IfOk result (λ words. texts words.items ≡ spec.serve_words (map string_bytes options.entry.now)) }
 {
     let mut words = Vec::new(alloc);
     words.push("nicbench")?;
@@ -53,7 +54,7 @@ fn answer_to(error: &LineError<'_>) -> Result<bool, AllocError>
 
 /// Returns whether these options are for the adapter of this job. Fails only if memory was refused.
 pub fn is_for(alloc: Global, options: &[String], job: &ServeJob<'_>) -> Result<bool, AllocError>
-    ensures { IfOk result (spec.IsAnswer (spec.serve_words (map string_bytes options.now)) job.now) }
+    ensures { IfOk result (spec.IsSameAdapterAnswer (spec.serve_words (map string_bytes options.now)) job.now) }
 {
     let words = serve_words(alloc, options)?;
     match line(alloc, words.as_slice()) {

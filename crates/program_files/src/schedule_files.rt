@@ -1,6 +1,4 @@
 //! The files of schedules: the schedule that is played, and the schedule that is recorded.
-ghost use Rattle.std.specs.Prelude.{◌≡◌};
-ghost use Rattle.program_files.specs.declared.schedule_files.ScheduleFileError.TheVariants as errors;
 
 use crate::file_error::FileError;
 use crate::files::{create_file, read_file_bytes};
@@ -12,49 +10,10 @@ use std::alloc::{AllocError, Global};
 use std::fs::OpenFile;
 use std::io::{Input, Write};
 use std::rt::Files;
-use step_schedules::{Player, Schedule, ScheduleError};
+use step_schedules::{Player, Schedule};
 
 /// The first line of a recorded schedule.
 const COMMENT: &[u8] = b"# recorded by nicbench serve\n";
-
-/// Why a schedule can't be played or stored.
-#[derive(Drop)]
-pub enum ScheduleFileError {
-    /// The file of the schedule can't be used.
-    File(FileError),
-    /// The file doesn't contain a schedule.
-    Schedule(ScheduleError),
-    /// The schedule is for an adapter with other options.
-    Options,
-    /// The recorded schedule can't be written.
-    Write,
-    /// Memory was refused.
-    Memory,
-}
-
-impl From<FileError> for ScheduleFileError {
-    ghost from_gives = { λ error e. e ≡ errors.File error };
-
-    fn from(error: FileError) -> ScheduleFileError {
-        ScheduleFileError::File(error)
-    }
-}
-
-impl From<ScheduleError> for ScheduleFileError {
-    ghost from_gives = { λ error e. e ≡ errors.Schedule error };
-
-    fn from(error: ScheduleError) -> ScheduleFileError {
-        ScheduleFileError::Schedule(error)
-    }
-}
-
-impl From<AllocError> for ScheduleFileError {
-    ghost from_gives = { λ _ e. e ≡ errors.Memory };
-
-    fn from(_error: AllocError) -> ScheduleFileError {
-        ScheduleFileError::Memory
-    }
-}
 
 /// Returns whether a schedule is for the adapter of this job. A schedule without options is for every adapter.
 fn is_for_job(alloc: Global, schedule: &Schedule, job: &ServeJob<'_>) -> Result<bool, AllocError> {
@@ -65,12 +24,12 @@ fn is_for_job(alloc: Global, schedule: &Schedule, job: &ServeJob<'_>) -> Result<
 }
 
 /// Returns the player of the schedule with this text, which must be for the adapter of this job.
-fn player_in(alloc: Global, text: &[u8], job: &ServeJob<'_>) -> Result<Player, ScheduleFileError> {
+fn player_in(alloc: Global, text: &[u8], job: &ServeJob<'_>) -> Result<Player, FileError> {
     let schedule = Schedule::parse(alloc, text)?;
     if is_for_job(alloc, &schedule, job)? {
         Ok(Player::playing(alloc, schedule)?)
     } else {
-        Err(ScheduleFileError::Options)
+        Err(FileError::OtherOptions)
     }
 }
 
@@ -79,7 +38,7 @@ fn playing<R: Files + Input + AllocGlobal>(
     rt: &R,
     path: &str,
     job: &ServeJob<'_>,
-) -> Result<Player, ScheduleFileError> {
+) -> Result<Player, FileError> {
     let bytes = read_file_bytes(rt, path)?;
     player_in(rt.alloc(), bytes.as_slice(), job)
 }
@@ -92,12 +51,12 @@ fn recording(alloc: Global, job: &ServeJob<'_>) -> Option<Player> {
     }
 }
 
-/// Returns the player of a server, if the job asks for a schedule or a record. A schedule must be for the adapter of
-/// this job.
+/// Returns the player of a server, if the job asks for a schedule or a record. If the schedule is for
+/// another adapter than this job's, returns `OtherOptions`.
 pub fn player_of<R: Files + Input + AllocGlobal>(
     rt: &R,
     job: &ServeJob<'_>,
-) -> Result<Option<Player>, ScheduleFileError> {
+) -> Result<Option<Player>, FileError> {
     match job.schedule {
         Some(path) => Ok(Some(playing(rt, path, job)?)),
         None => Ok(recording(rt.alloc(), job)),
@@ -116,8 +75,8 @@ pub fn record_of<R: Files + AllocGlobal>(
     })
 }
 
-/// Returns a schedule of the steps that were played. It begins with the options of the adapter in these words, if there
-/// are any.
+/// Returns a schedule of the steps that were played. It begins with the options of the adapter among `words`, the words
+/// of the command line of `serve`, if there are any.
 fn recorded(alloc: Global, words: &[String], player: &Player) -> Result<String, AllocError> {
     let options = adapter_options(alloc, words)?;
     if options.is_empty() {
@@ -127,17 +86,22 @@ fn recorded(alloc: Global, words: &[String], player: &Player) -> Result<String, 
     }
 }
 
-/// Stores a schedule of the steps that were played: a comment, the options of the adapter in these words, and the
-/// steps. Without such options, the schedule has no options.
+/// Stores a schedule of the steps that were played: a comment, the options of the adapter among `words`, the words of
+/// the command line of `serve`, and the steps. Without such options, the schedule has no options.
+///
+/// # Errors
+///
+/// Returns `Memory` if memory is refused; then nothing was written. Returns `Write` if a write fails; then the file may
+/// contain a part of the schedule.
 pub fn store<F: OpenFile + Write>(
     alloc: Global,
     file: &mut LateFile<F>,
     words: &[String],
     player: &Player,
-) -> Result<(), ScheduleFileError> {
+) -> Result<(), FileError> {
     let text = recorded(alloc, words, player)?;
     if file.write_all(COMMENT).is_err() || file.write_all(text.as_bytes()).is_err() {
-        return Err(ScheduleFileError::Write);
+        return Err(FileError::Write);
     }
     Ok(())
 }

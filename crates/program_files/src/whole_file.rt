@@ -71,7 +71,7 @@ fn new_part<R: Files + AllocGlobal>(
 
 /// Sets the permissions of a part to those of the file that it replaces, if both have the same owner and group. Returns
 /// whether the permissions were set.
-fn take_after<F: OpenFile>(part: &F, old: &Metadata) -> bool {
+fn take_permissions<F: OpenFile>(part: &F, old: &Metadata) -> bool {
     let Ok(new) = part.metadata() else {
         return false;
     };
@@ -89,16 +89,17 @@ fn part_like<R: Files + AllocGlobal>(
     let Some((file, name)) = new_part(rt, path)? else {
         return Ok(None);
     };
-    if take_after(&file, old) {
+    if take_permissions(&file, old) {
         return Ok(Some((file, name)));
     }
+    // An empty part that can't be removed remains.
     let _ = fs::remove_file(rt, name.as_str());
     Ok(None)
 }
 
 impl<F: OpenFile + std::io::Write + Drop> WholeFile<F> {
     /// Returns an output that is written into a part.
-    fn beside(file: F, name: String) -> WholeFile<F>
+    fn in_part(file: F, name: String) -> WholeFile<F>
         ensures { ⟦<FileSink<F> as Sink>⟧.failures result.sink ≡ 0 }
     {
         WholeFile {
@@ -129,6 +130,7 @@ impl<F: OpenFile + std::io::Write + Drop> WholeFile<F> {
         if fs::rename(rt, part.as_str(), path).is_ok() {
             return Ok(());
         }
+        // A part that can't be removed remains.
         let _ = fs::remove_file(rt, part.as_str());
         Err(WriteError::Write)
     }
@@ -138,6 +140,7 @@ impl<F: OpenFile + std::io::Write + Drop> WholeFile<F> {
     pub fn abandon<R: Files>(self, rt: &R) {
         let WholeFile { sink: _, part } = self;
         if let Some(part) = part {
+            // A part that can't be removed remains.
             let _ = fs::remove_file(rt, part.as_str());
         }
     }
@@ -155,7 +158,7 @@ fn open_replaceable<R: Files + AllocGlobal>(
         return Err(FileError::open(rt.alloc(), path));
     };
     match part_like(rt, path, old)? {
-        Some((part, name)) => Ok(WholeFile::beside(part, name)),
+        Some((part, name)) => Ok(WholeFile::in_part(part, name)),
         None => Ok(WholeFile::in_place(WriterSink::new(LateFile::new(file)))),
     }
 }
@@ -175,7 +178,7 @@ fn create_new<R: Files + AllocGlobal>(rt: &R, path: &str) -> Result<WholeFile<R:
     ensures { IfOk result (λ file. ⟦<FileSink<R::File> as Sink>⟧.failures file.sink ≡ 0) }
 {
     match new_part(rt, path)? {
-        Some((part, name)) => Ok(WholeFile::beside(part, name)),
+        Some((part, name)) => Ok(WholeFile::in_part(part, name)),
         None => create_in_place(rt, path),
     }
 }

@@ -1,10 +1,10 @@
 -- Each frame of a trace has one fate.
 use Rattle.std.proofs.Common.{◌≡◌, ◌∷◌, [], ℕ, List, Option, Some, None, refl, arith}
-use Rattle.pcap_bench.specs.Passing.{Fate, Filter, HaveFates, IsFate, WritesKept, filtered, illegal, kept}
+use Rattle.pcap_bench.specs.Passing.{Fate, Filter, HaveFates, IsFateBy, WritesKept, filtered, illegal, kept}
 use Rattle.pcap_bench.specs.declared.counts.PassCounts.{PassCounts}
 use Rattle.pcap_trace.specs.declared.unit.Unit.{Unit}
 
-one_fate : (keeps : Filter) (frame : List ℕ) (a b : Fate) → IsFate keeps frame a → IsFate keeps frame b → a ≡ b
+one_fate : (keeps : Filter) (frame : List ℕ) (a b : Fate) → IsFateBy keeps frame a → IsFateBy keeps frame b → a ≡ b
 one_fate keeps frame illegal illegal p q = refl
 one_fate keeps frame illegal filtered p q = absurd (cc (p, q.0))
 one_fate keeps frame illegal kept p q = absurd (cc (p, q.0))

@@ -1,5 +1,5 @@
 -- Words ask for one job.
-use Rattle.std.proofs.Common.{◌≡◌, ◌++◌, ◌<◌, ℕ, List, Bool, true, false, Option, Some, None, refl, sym, ap, subst, arith, ◌∙◌}
+use Rattle.std.proofs.Common.{◌≡◌, ◌<◌, ℕ, List, Bool, true, false, Option, Some, None, refl, sym, ap, subst, arith, ◌∙◌}
 use Rattle.std.specs.Prelude.{◌↔◌, Err, IfOk, Ok, Result, IsNone, IsSomeAnd, IsTrue, codes}
 use Rattle.std.specs.Str.{bytes_eq}
 use Rattle.clap.specs.Words.{Row, Text}
@@ -25,8 +25,8 @@ use Rattle.command_line.specs.declared.job.ServeImage.{ServeImage}
 use Rattle.command_line.specs.declared.job.ServeImage.TheVariants.{Address, File}
 use Rattle.command_line.specs.declared.job.ServeJob.{ServeJob}
 use Rattle.command_line.specs.declared.job.ServeLink.TheVariants.{After, Never}
-use Rattle.program_files.specs.Adapters.{AreSameImage, HasAdapterOf, HaveSameAdapter, IsAnswer}
-use Rattle.program_plants.specs.SameJobs.{AreSameDrives, AreSameImages, AreSameJobs, AreSamePasses, AreSameRuns, AreSameServes}
+use Rattle.program_files.specs.Adapters.{AreSameImage, HasAdapterOf, HaveSameAdapter, IsSameAdapterAnswer}
+use Rattle.program_plants.specs.SameJobs.{AreSameDrives, AreSameJobs, AreSamePasses, AreSameRuns, AreSameServes}
 
 -- A text spells at most one value of each form.
 
@@ -100,7 +100,7 @@ pub not_both : (text : Option (List ℕ)) (given : List ℕ) → text ≡ Some g
 not_both None given some none = absurd (cc (some))
 not_both (Some text) given some none = absurd (cc (none))
 
-image_one : (rows : List Row) (a b : ServeImage) → IsImageOf rows a → IsImageOf rows b → AreSameImages a b
+image_one : (rows : List Row) (a b : ServeImage) → IsImageOf rows a → IsImageOf rows b → AreSameImage a b
 image_one rows (File path) (File other) p q = given_one _ path.now other.now p.0 q.0
 image_one rows (File path) (Address address) p q = absurd (not_both _ path.now p.0 q.0)
 image_one rows (Address address) (File path) p q = absurd (not_both _ path.now q.0 p.0)
@@ -136,13 +136,15 @@ run_one rows a b p q = record {
 
 serve_one : (rows : List Row) (a b : ServeJob) → IsServeJobOf rows a → IsServeJobOf rows b → AreSameServes a b
 serve_one rows a b p q = record {
-  memory = default_one SpellsWord _ word_one _ a.memory b.memory p.memory q.memory;
-  registers = default_one SpellsWord _ word_one _ a.registers b.registers p.registers q.registers;
-  image = image_one rows a.image b.image p.image q.image;
-  link = default_one SpellsLink _ link_one _ a.link b.link p.link q.link;
-  kilobytes = default_one SpellsKilobytes _ kilobytes_one _ a.receive_kilobytes b.receive_kilobytes p.kilobytes q.kilobytes;
+  adapter = record {
+    memory = default_one SpellsWord _ word_one _ a.memory b.memory p.memory q.memory;
+    registers = default_one SpellsWord _ word_one _ a.registers b.registers p.registers q.registers;
+    image = image_one rows a.image b.image p.image q.image;
+    link = default_one SpellsLink _ link_one _ a.link b.link p.link q.link;
+    kilobytes = default_one SpellsKilobytes _ kilobytes_one _ a.receive_kilobytes b.receive_kilobytes p.kilobytes q.kilobytes;
+    missed = default_one SpellsCount _ count_one _ a.missed b.missed p.missed q.missed;
+  };
   seed = default_one SpellsDecimal _ decimal_one _ a.seed b.seed p.seed q.seed;
-  missed = default_one SpellsCount _ count_one _ a.missed b.missed p.missed q.missed;
   schedule = sym p.schedule ∙ q.schedule;
   «record» = sym p.«record» ∙ q.«record»;
 }
@@ -160,32 +162,23 @@ drive_one rows a b p q = record {
   receive = given_one _ a.receive.now b.receive.now p.receive q.receive;
 }
 
+-- a name isn't that of two subcommands
+apart : {name own other : Text} → name ≡ own → name ≡ other → bytes_eq own own ≡ true → bytes_eq other own ≡ false → ⊥
+apart {name} {own} {other} is also same differs =
+    let one : bytes_eq own own ≡ bytes_eq other own = ap (λ (t : Text). bytes_eq t own) (sym is ∙ also) in
+    cc
+
 job_one : (found : Text × List Row) (a b : Job) → IsJobOf found a → IsJobOf found b → AreSameJobs a b
 job_one found (Pass a) (Pass b) p q = pass_one found.1 a b p.1 q.1
-job_one found (Pass a) _ p q =
-    let yes : bytes_eq found.0 (codes "pass") ≡ true = ap (λ (t : Text). bytes_eq t (codes "pass")) p.0 in
-    let no : bytes_eq found.0 (codes "pass") ≡ false = ap (λ (t : Text). bytes_eq t (codes "pass")) q.0 in
-    absurd (cc (yes, no))
+job_one found (Pass a) _ p q = absurd (apart p.0 q.0 refl refl)
 job_one found (Run a) (Run b) p q = run_one found.1 a b p.1 q.1
-job_one found (Run a) _ p q =
-    let yes : bytes_eq found.0 (codes "run") ≡ true = ap (λ (t : Text). bytes_eq t (codes "run")) p.0 in
-    let no : bytes_eq found.0 (codes "run") ≡ false = ap (λ (t : Text). bytes_eq t (codes "run")) q.0 in
-    absurd (cc (yes, no))
+job_one found (Run a) _ p q = absurd (apart p.0 q.0 refl refl)
 job_one found (Show a) (Show b) p q = given_one _ a.trace.now b.trace.now p.1 q.1
-job_one found (Show a) _ p q =
-    let yes : bytes_eq found.0 (codes "show") ≡ true = ap (λ (t : Text). bytes_eq t (codes "show")) p.0 in
-    let no : bytes_eq found.0 (codes "show") ≡ false = ap (λ (t : Text). bytes_eq t (codes "show")) q.0 in
-    absurd (cc (yes, no))
+job_one found (Show a) _ p q = absurd (apart p.0 q.0 refl refl)
 job_one found (Serve a) (Serve b) p q = serve_one found.1 a b p.1 q.1
-job_one found (Serve a) _ p q =
-    let yes : bytes_eq found.0 (codes "serve") ≡ true = ap (λ (t : Text). bytes_eq t (codes "serve")) p.0 in
-    let no : bytes_eq found.0 (codes "serve") ≡ false = ap (λ (t : Text). bytes_eq t (codes "serve")) q.0 in
-    absurd (cc (yes, no))
+job_one found (Serve a) _ p q = absurd (apart p.0 q.0 refl refl)
 job_one found (Drive a) (Drive b) p q = drive_one found.1 a b p.1 q.1
-job_one found (Drive a) _ p q =
-    let yes : bytes_eq found.0 (codes "drive") ≡ true = ap (λ (t : Text). bytes_eq t (codes "drive")) p.0 in
-    let no : bytes_eq found.0 (codes "drive") ≡ false = ap (λ (t : Text). bytes_eq t (codes "drive")) q.0 in
-    absurd (cc (yes, no))
+job_one found (Drive a) _ p q = absurd (apart p.0 q.0 refl refl)
 
 found_one : (found : Option (Text × List Row)) (a b : Job) → IsSomeAnd found (λ it. IsJobOf it a) → IsSomeAnd found (λ it. IsJobOf it b)
     → AreSameJobs a b
@@ -198,36 +191,34 @@ asked_one words a b p q = found_one (found_in words) a b p.1 q.1
 pub asked_not_refused : (words : List Text) (job : Job) (error : Error) → IsAskedBy words job → IsRefusalOf words error → ⊥
 asked_not_refused words job error asked refused = subst (λ (kinds : Kinds). IsAmong (kind_of error) kinds) asked.0 refused
 
-images_one : (a b c d : ServeImage) → AreSameImages a b → AreSameImage a c → AreSameImage b d → AreSameImage c d
-images_one (Address a) (Address b) (Address c) (Address d) p q r = sym q ∙ p ∙ r
-images_one (Address a) (Address b) (Address c) (File d) p q r = absurd r
-images_one (Address a) (Address b) (File c) d p q r = absurd q
-images_one (Address a) (File b) c d p q r = absurd p
-images_one (File a) (File b) (File c) (File d) p q r = sym q ∙ p ∙ r
-images_one (File a) (File b) (File c) (Address d) p q r = absurd r
-images_one (File a) (File b) (Address c) d p q r = absurd q
-images_one (File a) (Address b) c d p q r = absurd p
+pub image_moved : (a b c : ServeImage) → AreSameImage a b → AreSameImage a c → AreSameImage b c
+image_moved (Address a) (Address b) (Address c) p q = sym p ∙ q
+image_moved (Address a) (Address b) (File c) p q = absurd q
+image_moved (Address a) (File b) c p q = absurd p
+image_moved (File a) (File b) (File c) p q = sym p ∙ q
+image_moved (File a) (File b) (Address c) p q = absurd q
+image_moved (File a) (Address b) c p q = absurd p
 
 same_adapter_one : (a b : Job) (job other : ServeJob) → AreSameJobs a b → HasAdapterOf job a → HasAdapterOf other b
     → HaveSameAdapter job other
 same_adapter_one (Serve a) (Serve b) job other same p q = record {
-  memory = sym p.memory ∙ same.memory ∙ q.memory;
-  registers = sym p.registers ∙ same.registers ∙ q.registers;
-  image = images_one a.image b.image job.image other.image same.image p.image q.image;
-  link = sym p.link ∙ same.link ∙ q.link;
-  kilobytes = sym p.kilobytes ∙ same.kilobytes ∙ q.kilobytes;
-  missed = sym p.missed ∙ same.missed ∙ q.missed;
+  memory = sym p.memory ∙ same.adapter.memory ∙ q.memory;
+  registers = sym p.registers ∙ same.adapter.registers ∙ q.registers;
+  image = image_moved b.image job.image other.image (image_moved a.image b.image job.image same.adapter.image p.image) q.image;
+  link = sym p.link ∙ same.adapter.link ∙ q.link;
+  kilobytes = sym p.kilobytes ∙ same.adapter.kilobytes ∙ q.kilobytes;
+  missed = sym p.missed ∙ same.adapter.missed ∙ q.missed;
 }
 same_adapter_one (Serve a) _ job other same p q = absurd same
 same_adapter_one _ b job other same p q = absurd p
 
-pub adapter_one : (words : List Text) (job other : ServeJob) → IsAnswer words job true → IsAnswer words other true
+pub adapter_one : (words : List Text) (job other : ServeJob) → IsSameAdapterAnswer words job true → IsSameAdapterAnswer words other true
     → HaveSameAdapter job other
 adapter_one words job other p q = same_adapter_one p.0 q.0 job other (asked_one words p.0 q.0 p.1 q.1) p.2 q.2
 
-pub is_for_one : {E : Type 0} (words : List Text) (job other : ServeJob) (one two : Result Bool E) → IfOk one (IsAnswer words job)
-    → IfOk two (IsAnswer words other) → IfOk one (λ is. IfOk two (λ also. IsTrue is → IsTrue also → HaveSameAdapter job other))
+pub is_for_one : {E : Type 0} (words : List Text) (job other : ServeJob) (one two : Result Bool E) → IfOk one (IsSameAdapterAnswer words job)
+    → IfOk two (IsSameAdapterAnswer words other) → IfOk one (λ is. IfOk two (λ also. IsTrue is → IsTrue also → HaveSameAdapter job other))
 is_for_one words job other (Ok is) (Ok also) p q = λ yes both.
-    adapter_one words job other (subst (λ (b : Bool). IsAnswer words job b) yes p) (subst (λ (b : Bool). IsAnswer words other b) both q)
+    adapter_one words job other (subst (λ (b : Bool). IsSameAdapterAnswer words job b) yes p) (subst (λ (b : Bool). IsSameAdapterAnswer words other b) both q)
 is_for_one words job other (Ok is) (Err error) p q = tt
 is_for_one words job other (Err error) two p q = tt

@@ -14,9 +14,9 @@ use Rattle.played_adapter.specs.Draws.{drawn_count}
 use Rattle.played_adapter.specs.Order.{InOrder, Joins, Tells, Times}
 use Rattle.played_adapter.specs.Outcomes.{did, moved_by}
 use Rattle.played_adapter.specs.Playing.{Accessed, AllArrive, AnswersLoad, AnswersStore, Arrives, Chosen, Draws, DrawsChoice}
-use Rattle.played_adapter.specs.Playing.{FrameArrives, Happens, HappensAlone}
-use Rattle.played_adapter.specs.Playing.{Interleaves, Makes, NextArrives, OldestArrives, Plays, PlaysScheduled, Prepares, Steps, Ticks}
-use Rattle.played_adapter.specs.Playing.{both_ticks, counted, drawn_from, due_in, noted, without_next}
+use Rattle.played_adapter.specs.Playing.{FrameArrives, HappensTold, HappensAlone}
+use Rattle.played_adapter.specs.Playing.{Interleaves, Makes, NextArrives, OldestArrives, PlaysStepOfKind, PlaysScheduled, Prepares, Steps, Ticks}
+use Rattle.played_adapter.specs.Playing.{kinds_of_ticks, access_counted, drawn_from, due_in, noted, without_next}
 use Rattle.played_adapter.specs.Told.{Told}
 use Rattle.played_adapter.specs.declared.choices.Choice.{Choice}
 use Rattle.played_adapter.specs.declared.choices.Choice.TheVariants.{Arrival, Step}
@@ -29,7 +29,7 @@ use Rattle.step_schedules.specs.declared.deviation.Action.TheVariants.{Arrive}
 
 -- If something happens twice from the same state, the states after it are equal, and so are the lists that are told.
 abbrev pub IsOne : {S : Type 0} → (S → S → List Told → Type 0) → Type 0
-IsOne {S} Happens = (a b c : S) (told other : List Told) → Happens a b told → Happens a c other → (b ≡ c) × (told ≡ other)
+IsOne {S} HappensTold = (a b c : S) (told other : List Told) → HappensTold a b told → HappensTold a c other → (b ≡ c) × (told ≡ other)
 
 both_told : (a b c d : List Told) → a ≡ b → c ≡ d → a ++ c ≡ b ++ d
 both_told a b c d same later = ap (λ (x : List Told). x ++ c) same ∙ ap (λ (x : List Told). b ++ x) later
@@ -45,17 +45,17 @@ joins_one First Later first_one later_one b c told other p q =
     let rests = later_one p.middle b c p.rest q.rest p.goes_on later in
     (rests.0, p.told_is ∙ both_told p.first q.first p.rest q.rest firsts.1 rests.1 ∙ sym q.told_is)
 
-in_order_one : {X S : Type 0} (Happens : X → S → S → List Told → Type 0) → ((x : X) → IsOne (Happens x)) → (xs : List X)
-    → IsOne (InOrder Happens xs)
-in_order_one Happens each [] a b c told other p q = (p.0 ∙ sym q.0, p.1 ∙ sym q.1)
-in_order_one Happens each (x ∷ later) a b c told other p q =
-    joins_one (λ m first. Happens x a m first) (λ m d rest. InOrder Happens later m d rest)
-    (λ m n. each x a m n) (λ m. in_order_one Happens each later m) b c told other p q
+in_order_one : {X S : Type 0} (HappensTold : X → S → S → List Told → Type 0) → ((x : X) → IsOne (HappensTold x)) → (xs : List X)
+    → IsOne (InOrder HappensTold xs)
+in_order_one HappensTold each [] a b c told other p q = (p.0 ∙ sym q.0, p.1 ∙ sym q.1)
+in_order_one HappensTold each (x ∷ later) a b c told other p q =
+    joins_one (λ m first. HappensTold x a m first) (λ m d rest. InOrder HappensTold later m d rest)
+    (λ m n. each x a m n) (λ m. in_order_one HappensTold each later m) b c told other p q
 
-times_one : {S : Type 0} (Happens : S → S → List Told → Type 0) → IsOne Happens → (count : ℕ) → IsOne (Times Happens count)
-times_one Happens one count = in_order_one (λ (turn : ℕ). Happens) (λ turn. one) (replicate count 0)
+times_one : {S : Type 0} (HappensTold : S → S → List Told → Type 0) → IsOne HappensTold → (count : ℕ) → IsOne (Times HappensTold count)
+times_one HappensTold one count = in_order_one (λ (turn : ℕ). HappensTold) (λ turn. one) (replicate count 0)
 
-happens_one : (event : Event) (of_it : List Told) (next : PlayedAdapter) → IsOne (Happens event of_it next)
+happens_one : (event : Event) (of_it : List Told) (next : PlayedAdapter) → IsOne (HappensTold event of_it next)
 happens_one event of_it next a b c told other p q = (p.after ∙ sym q.after, p.told_is ∙ sym q.told_is)
 
 pub outcome_is_one : (kind : StepKind) (a b c : PlayedAdapter) (outcome another : Outcome (Unit {0})) (told other : List Told)
@@ -81,7 +81,7 @@ arrives_one frame a b c fate another told other p q =
 pub arrival_one : (frame : List ℕ) (fate : Fate) → IsOne (Arrives frame fate)
 arrival_one frame fate a b c told other p q = (p.after ∙ sym q.after, p.told_is ∙ sym q.told_is)
 
-plays_one : (kind : StepKind) → IsOne (Plays kind)
+plays_one : (kind : StepKind) → IsOne (PlaysStepOfKind kind)
 plays_one kind a b c told other p q =
     let outcomes = outcome_is_one kind a.0 b.0 c.0 p.outcome q.outcome told other p.steps q.steps in
     let same = steps_one kind a.0 b.0 c.0 p.outcome q.outcome told other p.steps q.steps in
@@ -92,7 +92,7 @@ plays_one kind a b c told other p q =
 
 ticks_one : IsOne Ticks
 ticks_one a b c told other p q =
-    let same = in_order_one Plays plays_one (if a.ticks then both_ticks else []) (a, 0) (b, p.0) (c, q.0) told other p.1 q.1 in
+    let same = in_order_one PlaysStepOfKind plays_one (if a.ticks then kinds_of_ticks else []) (a, 0) (b, p.0) (c, q.0) told other p.1 q.1 in
     (ap (λ (x : PlayedAdapter × ℕ). x.0) same.0, same.1)
 
 scheduled_one : (step : ScheduledStep) → IsOne (PlaysScheduled step)
@@ -148,7 +148,7 @@ moves_one moves = in_order_one Makes makes_one moves
 draws_one : IsOne Draws
 draws_one a b c told other p q =
     let same = interleaves_one a p.0 q.0 told other p.1 q.1 in
-    (p.2 ∙ ap (λ (x : PlayedAdapter). counted x) same.0 ∙ sym q.2, same.1)
+    (p.2 ∙ ap (λ (x : PlayedAdapter). access_counted x) same.0 ∙ sym q.2, same.1)
 
 prepares_one : IsOne Prepares
 prepares_one a b c told other p q =
@@ -200,9 +200,14 @@ stores_one address bytes false false a b c told other p q =
     let two = q.refused refl in
     (refl, one.0 ∙ sym two.0, one.1 ∙ sym two.1)
 
-pub one_told : {O S : Type 0} (heard : O → O → List Told → Type 0) (Happens : S → S → List Told → Type 0) → IsOne Happens → (a b c : S)
-    (before after before' after' : O) → Tells heard before after (Happens a b) → Tells heard before' after' (Happens a c)
+pub one_told : {O S : Type 0} (heard : O → O → List Told → Type 0) (HappensTold : S → S → List Told → Type 0) → IsOne HappensTold → (a b c : S)
+    (before after before' after' : O) → Tells heard before after (HappensTold a b) → Tells heard before' after' (HappensTold a c)
     → (b ≡ c) × ((told : List Told) × heard before after told × heard before' after' told)
-one_told heard Happens one a b c before after before' after' p q =
+one_told heard HappensTold one a b c before after before' after' p q =
     let same = one a b c p.told q.told p.holds q.holds in
     (same.0, (p.told, p.hears, subst (λ (told : List Told). heard before' after' told) (sym same.1) q.hears))
+
+-- Two observers were told the same list.
+pub heard_alike : {O : Type 0} (heard : O → O → List Told → Type 0) (a b c d : O) {told same : List Told} → told ≡ same
+    → heard a b told → heard c d same → (told : List Told) × heard a b told × heard c d told
+heard_alike heard a b c d {told} is first other = (told, first, subst (heard c d) (sym is) other)

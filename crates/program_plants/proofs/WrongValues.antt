@@ -23,9 +23,9 @@ use Rattle.command_line.specs.declared.job.ServeJob.{ServeJob}
 use Rattle.command_line.specs.declared.job.ValueOption.{ValueOption}
 use Rattle.command_line.specs.declared.job.ValueOption.TheVariants as option
 use Rattle.text.specs.Addresses.{SpellsAddress}
-use Rattle.program_files.specs.Adapters.{AreSameImage, HasAdapterOf, IsAnswer}
-use Rattle.program_plants.specs.SameJobs.{AreSameImages, AreSameJobs}
-use Rattle.program_plants.proofs.OneJob.{asked_one, not_both}
+use Rattle.program_files.specs.Adapters.{HasAdapterOf, IsSameAdapterAnswer}
+use Rattle.program_plants.specs.SameJobs.{AreSameJobs}
+use Rattle.program_plants.proofs.OneJob.{asked_one, image_moved, not_both}
 
 -- The text of an option that has a value has the option's form.
 
@@ -126,33 +126,25 @@ line_values words (Err error) two asked refused = tt
 
 -- Options can't both be and not be for the adapter of a job.
 
-image_moved : (a b c : ServeImage) → AreSameImages a b → AreSameImage a c → AreSameImage b c
-image_moved (image.Address a) (image.Address b) (image.Address c) p q = sym p ∙ q
-image_moved (image.Address a) (image.Address b) (image.File c) p q = absurd q
-image_moved (image.Address a) (image.File b) c p q = absurd p
-image_moved (image.File a) (image.File b) (image.File c) p q = sym p ∙ q
-image_moved (image.File a) (image.File b) (image.Address c) p q = absurd q
-image_moved (image.File a) (image.Address b) c p q = absurd p
-
 adapter_moved : (a b : Job) (job : ServeJob) → AreSameJobs a b → HasAdapterOf job a → HasAdapterOf job b
 adapter_moved (Serve a) (Serve b) job same is = record {
-  memory = sym same.memory ∙ is.memory;
-  registers = sym same.registers ∙ is.registers;
-  image = image_moved a.image b.image job.image same.image is.image;
-  link = sym same.link ∙ is.link;
-  kilobytes = sym same.kilobytes ∙ is.kilobytes;
-  missed = sym same.missed ∙ is.missed;
+  memory = sym same.adapter.memory ∙ is.memory;
+  registers = sym same.adapter.registers ∙ is.registers;
+  image = image_moved a.image b.image job.image same.adapter.image is.image;
+  link = sym same.adapter.link ∙ is.link;
+  kilobytes = sym same.adapter.kilobytes ∙ is.kilobytes;
+  missed = sym same.adapter.missed ∙ is.missed;
 }
 adapter_moved (Serve a) _ job same is = absurd same
 adapter_moved _ b job same is = absurd is
 
-not_both_answers : (words : List Text) (job : ServeJob) → IsAnswer words job true → IsAnswer words job false → ⊥
+not_both_answers : (words : List Text) (job : ServeJob) → IsSameAdapterAnswer words job true → IsSameAdapterAnswer words job false → ⊥
 not_both_answers words job asked (inl refused) = refused asked.1.0
 not_both_answers words job asked (inr (inl invalid)) = asked_not_invalid words asked.0 invalid.0 asked.1 invalid.1
 not_both_answers words job asked (inr (inr other)) =
     other.2 (adapter_moved asked.0 other.0 job (asked_one words asked.0 other.0 asked.1 other.1) asked.2)
 
-pub answer_one : (words : List Text) (job : ServeJob) (one two : Bool) → IsAnswer words job one → IsAnswer words job two → one ≡ two
+pub answer_one : (words : List Text) (job : ServeJob) (one two : Bool) → IsSameAdapterAnswer words job one → IsSameAdapterAnswer words job two → one ≡ two
 answer_one words job true true p q = refl
 answer_one words job true false p q = absurd (not_both_answers words job p q)
 answer_one words job false true p q = absurd (not_both_answers words job q p)

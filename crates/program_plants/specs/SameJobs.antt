@@ -7,9 +7,8 @@ use Rattle.command_line.specs.declared.job.Job.{Job}
 use Rattle.command_line.specs.declared.job.Job.TheVariants.{Drive, Pass, Run, Show, Serve}
 use Rattle.command_line.specs.declared.job.PassJob.{PassJob}
 use Rattle.command_line.specs.declared.job.RunJob.{RunJob}
-use Rattle.command_line.specs.declared.job.ServeImage.{ServeImage}
-use Rattle.command_line.specs.declared.job.ServeImage.TheVariants.{Address, File}
 use Rattle.command_line.specs.declared.job.ServeJob.{ServeJob}
+use Rattle.program_files.specs.Adapters.{HaveSameAdapter}
 
 abbrev pub AreSameTexts : Option (Bor (List ℕ)) → Option (Bor (List ℕ)) → Type 0
 AreSameTexts a b = option_map (λ (text : Bor (List ℕ)). text.now) a ≡ option_map (λ (text : Bor (List ℕ)). text.now) b
@@ -27,19 +26,9 @@ pub record AreSameRuns (a b : RunJob) : Type 0 where
   pub nanos : a.nanos ≡ b.nanos
   pub events : AreSameTexts a.events b.events
 
-abbrev pub AreSameImages : ServeImage → ServeImage → Type 0
-AreSameImages (Address address) (Address other) = address ≡ other
-AreSameImages (File path) (File other) = path.now ≡ other.now
-AreSameImages _ _ = ⊥
-
 pub record AreSameServes (a b : ServeJob) : Type 0 where
-  pub memory : a.memory ≡ b.memory
-  pub registers : a.registers ≡ b.registers
-  pub image : AreSameImages a.image b.image
-  pub link : a.link ≡ b.link
-  pub kilobytes : a.receive_kilobytes ≡ b.receive_kilobytes
+  pub adapter : HaveSameAdapter a b
   pub seed : a.seed ≡ b.seed
-  pub missed : a.missed ≡ b.missed
   pub schedule : AreSameTexts a.schedule b.schedule
   pub «record» : AreSameTexts a.«record» b.«record»
 

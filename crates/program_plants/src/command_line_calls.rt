@@ -1,5 +1,5 @@
-//! The call of `command_line`, made twice. The contract leaves open when memory is refused, and which of several
-//! wrong values an error names.
+//! The call of `command_line`, made twice. The prover knows only the clauses of a call, so these determine what is
+//! compared. The contract leaves open when memory is refused, and which of several wrong values an error names.
 
 ghost use Rattle.std.specs.Prelude.{IfErr, IfOk, OnOk};
 ghost use Rattle.command_line.specs.Errors.{IfValue, IfWords};

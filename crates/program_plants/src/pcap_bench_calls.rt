@@ -1,4 +1,5 @@
-//! The call of `pcap_bench` that passes the frames of a trace, made twice.
+//! The call of `pcap_bench` that passes the frames of a trace, made twice. The prover knows only the clauses of a call,
+//! so these determine what is compared.
 
 ghost use Rattle.std.specs.Prelude.{◌≡◌, ◌<◌, IfOk, IfSome, OnOk};
 ghost use Rattle.pcap_bench.specs.Options.{HasVlanNumber};

@@ -1,4 +1,5 @@
-//! The calls of `pcap_trace` that read and write traces, each made twice.
+//! The calls of `pcap_trace` that read and write traces, each made twice. The prover knows only the clauses of a call,
+//! so these determine what is compared.
 
 ghost use Rattle.std.specs.Prelude.{◌≡◌, ◌<◌, ◌≤◌, ◌↔◌, IfOk, IfSome, OnOk, Err, length, true};
 ghost use Rattle.std.specs.Io.KnownBytes.{append_known};
@@ -46,7 +47,7 @@ pub fn write_trace<W: Sink>(
     )
 }
 
-/// Calls [`RecordWriter::new`] twice. The contract leaves open when memory is refused.
+/// Calls [`RecordWriter::new`] twice. The contract of the call leaves open when memory is refused.
 pub fn new_writer(
     alloc: Global,
     unit: Unit,

@@ -1,14 +1,16 @@
-//! The calls of `Agenda` and `Recorder`, each made twice. The contracts leave open when memory is refused.
+//! The calls of `Agenda` and `Recorder`, each made twice, from equal states. The prover knows only the clauses of a
+//! call, so the clauses exclude every body whose outcome differs in what the function compares. The contracts leave
+//! open when memory is refused.
 
 ghost use Rattle.std.specs.Prelude.{◌≡◌, IfOk, OnOk, string_bytes};
 ghost use Rattle.std.specs.Option.{option_map};
-ghost use Rattle.step_schedules.specs.Events.{event_read};
+ghost use Rattle.step_schedules.specs.Events.{event_value};
 ghost use Rattle.step_schedules.specs.Schedules.{option_texts};
 
 use std::alloc::{AllocError, Global};
 use step_schedules::{Action, Agenda, Before, Event, Held, Place, Recorder};
 
-/// Calls [`Agenda::coming`] twice, of two equal agendas.
+/// Calls [`Agenda::coming`] twice: once of each of two equal agendas.
 pub fn coming<'a>(
     one: &Agenda,
     other: &Agenda,
@@ -16,12 +18,12 @@ pub fn coming<'a>(
     name: &'a [u8],
 ) -> (Event<'a>, Event<'a>)
     requires { one.now ≡ other.now }
-    ensures { event_read result.0 ≡ event_read result.1 }
+    ensures { event_value result.0 ≡ event_value result.1 }
 {
     (one.coming(before, name), other.coming(before, name))
 }
 
-/// Calls [`Agenda::held`] twice, of two equal agendas.
+/// Calls [`Agenda::held`] twice: once of each of two equal agendas.
 pub fn held(one: &Agenda, other: &Agenda, event: &Event<'_>) -> (Held, Held)
     requires { one.now ≡ other.now }
     ensures { result.0 ≡ result.1 }
@@ -29,7 +31,7 @@ pub fn held(one: &Agenda, other: &Agenda, event: &Event<'_>) -> (Held, Held)
     (one.held(event), other.held(event))
 }
 
-/// Calls [`Agenda::chosen`] twice, of two equal agendas.
+/// Calls [`Agenda::chosen`] twice: once of each of two equal agendas.
 pub fn chosen(one: &Agenda, other: &Agenda, event: &Event<'_>) -> (u32, u32)
     requires { one.now ≡ other.now }
     ensures { result.0 ≡ result.1 }
@@ -37,7 +39,7 @@ pub fn chosen(one: &Agenda, other: &Agenda, event: &Event<'_>) -> (u32, u32)
     (one.chosen(event), other.chosen(event))
 }
 
-/// Calls [`Agenda::count`] twice, of two equal agendas.
+/// Calls [`Agenda::count`] twice: once of each of two equal agendas.
 pub fn count(one: &mut Agenda, other: &mut Agenda, event: &Event<'_>)
     requires { one.old ≡ other.old }
     ensures { one.new ≡ other.new }
@@ -46,7 +48,7 @@ pub fn count(one: &mut Agenda, other: &mut Agenda, event: &Event<'_>)
     other.count(event);
 }
 
-/// Calls [`Agenda::unmet`] twice, of two equal agendas.
+/// Calls [`Agenda::unmet`] twice: once of each of two equal agendas.
 pub fn unmet(
     one: &Agenda,
     other: &Agenda,
@@ -58,7 +60,7 @@ pub fn unmet(
     (one.unmet(alloc), other.unmet(alloc))
 }
 
-/// Calls [`Recorder::begin`] twice, of two equal recorders, with equal names.
+/// Calls [`Recorder::begin`] twice: once of each of two equal recorders, with equal names.
 pub fn begin(
     one: &mut Recorder,
     other: &mut Recorder,
@@ -75,7 +77,7 @@ pub fn begin(
     other.begin(place, before, same_name);
 }
 
-/// Calls [`Recorder::note`] twice, of two equal recorders.
+/// Calls [`Recorder::note`] twice: once of each of two equal recorders.
 pub fn note(
     one: &mut Recorder,
     other: &mut Recorder,
@@ -87,7 +89,7 @@ pub fn note(
     (one.note(action), other.note(action))
 }
 
-/// Calls [`Recorder::recorded`] twice, of two equal recorders, with equal options.
+/// Calls [`Recorder::recorded`] twice: once of each of two equal recorders, with equal options.
 pub fn recorded(
     one: &Recorder,
     other: &Recorder,

@@ -1,4 +1,5 @@
-//! An access of `QtestBus`, made twice.
+//! An access of `QtestBus`, made twice. The prover knows only the clauses of a call, so these determine what is
+//! compared.
 
 ghost use Rattle.std.specs.Prelude.{◌≡◌, IfSome, None};
 

@@ -1,4 +1,5 @@
-//! The call of `program_files` that finds the options of an adapter among words, made twice.
+//! The call of `program_files` that finds the options of an adapter among words, made twice. The prover knows only the
+//! clauses of a call, so these determine what is compared.
 
 ghost use Rattle.std.specs.Prelude.{◌≡◌, IfOk, map, string_bytes};
 

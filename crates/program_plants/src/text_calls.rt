@@ -1,5 +1,6 @@
-//! The calls that find faults, name targets and write answers, each made twice, and a twin of `read_line`. The
-//! contracts leave open when memory is refused, and when a write fails.
+//! The calls that find faults, name targets and write answers, each made twice, and a twin of `read_line`. The prover
+//! knows only the clauses of a call, so these determine what is compared. The contracts leave open when memory is
+//! refused, and when a write fails.
 
 ghost use Rattle.std.specs.Prelude.{◌≡◌, IfOk, IfSome, OnOk, string_bytes};
 ghost use Rattle.server_output.specs.Answers.{IsSized};
@@ -51,7 +52,7 @@ pub fn name_of(
 
 /// A twin of [`server_requests::read_line`]: makes this call once, and returns its result.
 pub fn read_line(alloc: Global, line: &[u8]) -> Result<Request, Stop>
-    ensures { reading.IsRead line.now result }
+    ensures { reading.IsRequestRead line.now result }
 {
     match server_requests::read_line(alloc, line) {
         Ok(request) => Ok(request),

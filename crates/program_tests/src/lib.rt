@@ -1,4 +1,4 @@
-//! Tests of scenarios, schedules, names of targets, the PCI function and the server.
+//! Tests of scenarios, schedules, names of targets, the PCI function, the server, the command line and traces.
 #![tactic(auto)]
 
 #[cfg(test)]
@@ -8,8 +8,12 @@ mod names_of_targets;
 #[cfg(test)]
 mod pci_ports;
 #[cfg(test)]
+mod readmes;
+#[cfg(test)]
 mod scenario_readme;
 #[cfg(test)]
 mod server_calls;
 #[cfg(test)]
 mod step_schedules_readme;
+#[cfg(test)]
+mod traces;

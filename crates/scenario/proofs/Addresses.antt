@@ -2,7 +2,7 @@
 use Rattle.std.proofs.Common.{◌≡◌, ℕ, List, [], ◌∷◌, Option, Some, None, IfSome, IfNone, lit<, refl, subst, arith}
 use Rattle.std.specs.Option.{SomeIff}
 use Rattle.text.specs.Addresses.{SpellsAddress}
-use Rattle.scenario.specs.Spellings.{IsAddress, address_in}
+use Rattle.scenario.specs.Spellings.{IsAddressText, address_in}
 
 six : {a b c d e f a' b' c' d' e' f' : ℕ} → a ≡ a' → b ≡ b' → c ≡ c' → d ≡ d' → e ≡ e' → f ≡ f'
     → (a ∷ b ∷ c ∷ d ∷ e ∷ f ∷ []) ≡ (a' ∷ b' ∷ c' ∷ d' ∷ e' ∷ f' ∷ [])
@@ -20,7 +20,7 @@ same-address text (a ∷ b ∷ c ∷ d ∷ e ∷ f ∷ []) spelled =
 same-address text _ spelled = absurd (omega (arith, spelled.bytes))
 
 pub some-address : (found : Option (List ℕ)) (text : List ℕ) → IfSome found (SpellsAddress text)
-    → IfNone found ((address : List ℕ) → ¬ SpellsAddress text address) → SomeIff found (IsAddress text) (address_in text)
+    → IfNone found ((address : List ℕ) → ¬ SpellsAddress text address) → SomeIff found (IsAddressText text) (address_in text)
 some-address (Some address) text spelled none =
     let same = same-address text address spelled in
     (subst (λ (bytes : List ℕ). SpellsAddress text bytes) same spelled, same)

@@ -8,7 +8,7 @@ use Rattle.std.specs.Option.{IsSomeAnd}
 use Rattle.network_plan.specs.declared.plan.HostPlan.{HostPlan}
 use Rattle.scenario.specs.Answers.{IsChange, IsGrowth}
 use Rattle.scenario.specs.Meanings.{IsRoomAt, changed_first}
-use Rattle.scenario.specs.SoFar.{Host, has_name, host_of_plan, hosts_of, place_of}
+use Rattle.scenario.specs.SoFar.{Host, has_name, host_of_plan, hosts_of, host_place}
 use Rattle.scenario.specs.Words.{Text}
 use Rattle.scenario.specs.declared.refusal.Fault.{Fault}
 use Rattle.scenario.proofs.Places.{place-missing}
@@ -29,33 +29,42 @@ found-set p f (a ∷ xs) (suc k) d below passes none =
     ap (λ (hosts : List Host). a ∷ hosts) (found-set p f xs k d (omega arith) passes (λ j h. none (suc j) (omega arith)))
     ∙ sym (ap (λ b. cond b (f a ∷ xs) (a ∷ changed_first p f xs)) (none 0 (omega arith)))
 
+-- the first host of this name is that of the plan at `place`
+record IsFirst (name : Text) (plans : List HostPlan) (place : ℕ) (plan : HostPlan) : Type 0 where
+  below : place < length (hosts_of plans)
+  named : has_name name (get_or (hosts_of plans) place (host_of_plan plan)) ≡ true
+  others : (j : ℕ) → j < place → has_name name (get_or (hosts_of plans) j (host_of_plan plan)) ≡ false
+  here : get_or (hosts_of plans) place (host_of_plan plan) ≡ host_of_plan (get_or plans place plan)
+  found : find (has_name name) (hosts_of plans) ≡ Some (host_of_plan (get_or plans place plan))
+
+is-first : (name : Text) (plans : List HostPlan) (place : ℕ) (plan : HostPlan) → host_place name (hosts_of plans) ≡ Some place
+    → IsFirst name plans place plan
+is-first name plans place plan found =
+    let first = position-Some (has_name name) (hosts_of plans) place (host_of_plan plan) found in
+    let count = length-map plans host_of_plan in
+    let here : get_or (hosts_of plans) place (host_of_plan plan) ≡ host_of_plan (get_or plans place plan) =
+    get_or-map host_of_plan plans place plan (host_of_plan plan) (omega (arith, first.0, count)) in
+    record {
+      below = first.0;
+      named = first.1;
+      others = first.2;
+      here = here;
+      found = found-find (has_name name) (hosts_of plans) place (host_of_plan plan) first.0 first.1 first.2 ∙ ap Some here;
+    }
+
 pub change-host : (name : Text) (held : Host → ℕ) (most : ℕ) (change : Host → Host) (plans : List HostPlan) (place : ℕ)
-    (plan new : HostPlan) (result : Result (Unit {0}) Fault) → place_of name (hosts_of plans) ≡ Some place
+    (plan new : HostPlan) (result : Result (Unit {0}) Fault) → host_place name (hosts_of plans) ≡ Some place
     → IsGrowth held most change (host_of_plan (get_or plans place plan)) result (host_of_plan new)
     → IsChange name held most change (hosts_of plans) result (hosts_of (set plans place new))
 change-host name held most change plans place plan new (Ok u) found growth =
-    let hosts = hosts_of plans in
-    let first = position-Some (has_name name) hosts place (host_of_plan plan) found in
-    let count = length-map plans host_of_plan in
-    let below : place < length plans = omega (arith, first.0) in
-    let here : get_or hosts place (host_of_plan plan) ≡ host_of_plan (get_or plans place plan) =
-    get_or-map host_of_plan plans place plan (host_of_plan plan) below in
-    let one : find (has_name name) hosts ≡ Some (host_of_plan (get_or plans place plan)) =
-    found-find (has_name name) hosts place (host_of_plan plan) first.0 first.1 first.2 ∙ ap Some here in (
-      subst (λ (o : Option Host). IsSomeAnd o (λ host. held host < most)) (sym one) growth.0,
-      map-set host_of_plan plans place new ∙ ap (λ (h : Host). set hosts place h) (growth.1 ∙ ap change (sym here))
-          ∙ found-set (has_name name) change hosts place (host_of_plan plan) first.0 first.1 first.2,
+    let is = is-first name plans place plan found in (
+      subst (λ (o : Option Host). IsSomeAnd o (λ host. held host < most)) (sym is.found) growth.0,
+      map-set host_of_plan plans place new ∙ ap (λ (h : Host). set (hosts_of plans) place h) (growth.1 ∙ ap change (sym is.here))
+          ∙ found-set (has_name name) change (hosts_of plans) place (host_of_plan plan) is.below is.named is.others,
     )
 change-host name held most change plans place plan new (Err stopped) found growth =
-    let hosts = hosts_of plans in
-    let first = position-Some (has_name name) hosts place (host_of_plan plan) found in
-    let count = length-map plans host_of_plan in
-    let below : place < length plans = omega (arith, first.0) in
-    let here : get_or hosts place (host_of_plan plan) ≡ host_of_plan (get_or plans place plan) =
-    get_or-map host_of_plan plans place plan (host_of_plan plan) below in
-    let one : find (has_name name) hosts ≡ Some (host_of_plan (get_or plans place plan)) =
-    found-find (has_name name) hosts place (host_of_plan plan) first.0 first.1 first.2 ∙ ap Some here in
-    (growth.0, λ room. growth.1 (subst (λ (o : Option Host). IsSomeAnd o (λ host. held host < most)) one room))
+    let is = is-first name plans place plan found in
+    (growth.0, λ room. growth.1 (subst (λ (o : Option Host). IsSomeAnd o (λ host. held host < most)) is.found room))
 
 find-none : (p : Host → Bool) (xs : List Host) → length xs ≤ position_or_len p xs → find p xs ≡ None
 find-none p [] long = refl
@@ -67,7 +76,7 @@ find-none p (x ∷ xs) long =
     ] in
     step (p x) refl long
 
-pub no_room : (name : Text) (held : Host → ℕ) (most : ℕ) (hosts : List Host) → None ≡ place_of name hosts → ¬ IsRoomAt name held most hosts
+pub no_room : (name : Text) (held : Host → ℕ) (most : ℕ) (hosts : List Host) → None ≡ host_place name hosts → ¬ IsRoomAt name held most hosts
 no_room name held most hosts none room =
     let p = has_name name in
     let place = place-missing p hosts none in

@@ -4,8 +4,8 @@ use Rattle.std.proofs.Common.{Option, Some, None, Result, Ok, Err, length, ap, a
 use Rattle.std.proofs.lemmas.Bool.{false≢true}
 use Rattle.std.specs.Option.{IsSomeAnd}
 use Rattle.std.specs.Str.{IsUtf8}
-use Rattle.scenario.specs.Answers.{IsAnswer, IsFaulty, IsGood, IsLineAnswer, IsWordsAnswer, after_kind, is_skipped}
-use Rattle.scenario.specs.Kinds.{kind_named}
+use Rattle.scenario.specs.Answers.{IsAnswerToLine, IsFaulty, IsGood, IsLineAnswer, IsWordsAnswer, after_kind, is_skipped}
+use Rattle.scenario.specs.Kinds.{line_kind_named}
 use Rattle.scenario.specs.SoFar.{SoFar}
 use Rattle.scenario.specs.Words.{Text, texts, word, words_of}
 use Rattle.scenario.specs.declared.line_kind.LineKind.{LineKind}
@@ -14,14 +14,14 @@ use Rattle.scenario.specs.declared.refusal.Stop.{Stop}
 use Rattle.scenario.specs.declared.refusal.Stop.TheVariants as stop
 
 module _ (before after : SoFar) (words : List Text) (kind : LineKind) (says : is_skipped words ≡ false)
-    (named : kind_named (word 0 words) ≡ Some kind) where
-  some-and : (P : LineKind → Type 0) → P kind → IsSomeAnd (kind_named (word 0 words)) P
+    (named : line_kind_named (word 0 words) ≡ Some kind) where
+  some-and : (P : LineKind → Type 0) → P kind → IsSomeAnd (line_kind_named (word 0 words)) P
   some-and P h = subst (λ (found : Option LineKind). IsSomeAnd found P) (sym named) h
 
-  pub words-said : (result : Result (Unit {0}) Stop) → IsAnswer kind before words result after → IsWordsAnswer before words result after
+  pub words-said : (result : Result (Unit {0}) Stop) → IsAnswerToLine kind before words result after → IsWordsAnswer before words result after
   words-said (Ok u) h = (
     λ same. some-and (λ one. IsGood one before words) h.0,
-    h.1 ∙ sym (ap (λ b. cond b before (after_kind (kind_named (word 0 words)) before words)) says
+    h.1 ∙ sym (ap (λ b. cond b before (after_kind (line_kind_named (word 0 words)) before words)) says
         ∙ ap (λ (found : Option LineKind). after_kind found before words) named),
   )
   words-said (Err stop.Memory) h = tt
@@ -36,7 +36,7 @@ module _ (before after : SoFar) (words : List Text) (kind : LineKind) (says : is
 pub skipped-said : (before : SoFar) (words : List Text) → is_skipped words ≡ true → IsWordsAnswer before words (Ok tt) before
 skipped-said before words skips = (
   λ same. absurd (false≢true (sym same ∙ skips)),
-  sym (ap (λ b. cond b before (after_kind (kind_named (word 0 words)) before words)) skips),
+  sym (ap (λ b. cond b before (after_kind (line_kind_named (word 0 words)) before words)) skips),
 )
 
 pub words-there : (words : List (Bor Text)) → is_skipped (texts words) ≡ false → 0 < length words
@@ -57,5 +57,5 @@ module _ (before after : SoFar) (line : Text) (size : length line ≤ 8192) (tex
   line-said (Err (stop.Fault fault.Value)) h = (record { size = size; text = text }, h.0, h.1)
   line-said (Err (stop.Fault fault.Name)) h = (record { size = size; text = text }, h.0, h.1)
   line-said (Err (stop.Fault fault.Order)) h = (record { size = size; text = text }, h.0, h.1)
-  line-said (Err (stop.Fault fault.Long)) h = absurd (no-fault (kind_named (word 0 (words_of line))) h.1)
-  line-said (Err (stop.Fault fault.Text)) h = absurd (no-fault (kind_named (word 0 (words_of line))) h.1)
+  line-said (Err (stop.Fault fault.Long)) h = absurd (no-fault (line_kind_named (word 0 (words_of line))) h.1)
+  line-said (Err (stop.Fault fault.Text)) h = absurd (no-fault (line_kind_named (word 0 (words_of line))) h.1)

@@ -1,16 +1,17 @@
 -- What the checks of a line prove about the line's words.
 use Rattle.std.proofs.Common.{◌≡◌, ◌≤◌, ◌↔◌, ◌∙◌, ◌==◌, ℕ, Bool, true, false, List, Option, Some, None, Result, Ok, Err, IsTrue, Bor}
-use Rattle.std.proofs.Common.{OnOk, IfErr, is_some, length, map, ap, refl, subst, sym, arith}
+use Rattle.std.proofs.Common.{OnOk, IfErr, IsErrAnd, is_some, length, map, ap, refl, subst, sym, arith}
 use Rattle.std.proofs.lemmas.Bool.{eq-eqb, eqb-true, false≢true}
 use Rattle.std.proofs.lemmas.List.{length-map}
 use Rattle.network_plan.specs.declared.plan.HostPlan.{HostPlan}
 use Rattle.stations.specs.declared.tick.Tick.{Tick}
-use Rattle.scenario.specs.Answers.{IsAnswer, IsFaulty, IsFaultyCall, IsGood}
-use Rattle.scenario.specs.HostOptions.{AreCounted, uses_in}
-use Rattle.scenario.specs.Meanings.{CanAsk, HasHostWords, IsRoomFor, after_line, call_words, changed_first}
+use Rattle.scenario.specs.Answers.{IsAnswerToLine, IsFaulty, IsFaultyCall, IsGood}
+use Rattle.scenario.specs.HostOptions.{AreCounted, AreRead, uses_in}
+use Rattle.scenario.specs.Meanings.{CanAsk, HasHostWords, HasValues, IsRoomFor, after_line, call_words, changed_first}
 use Rattle.scenario.specs.Meanings.{number_of, option_words, said_in_call, saying, size_of_call, tick_words, ticks_in, with_item}
 use Rattle.scenario.specs.SoFar.{Host, Said, SoFar, has_name, hosts_of, said_of}
 use Rattle.scenario.specs.declared.command.Command.{Command}
+use Rattle.scenario.specs.Spellings.{IsAddressText}
 use Rattle.scenario.specs.Stops.{IfFault}
 use Rattle.scenario.specs.Words.{Text, texts, word}
 use Rattle.scenario.specs.declared.host_change.Item.{Item}
@@ -33,6 +34,12 @@ host-counted words uses test least is told passes = record {
   options = subst AreCounted is (told.0 passes);
 }
 
+pub host-valued : (words : List (Bor Text)) (uses : List HostUse) (address : Text) (test : Bool) → address ≡ word 2 (texts words)
+    → IsAddressText address → uses ≡ uses_in (option_words (texts words)) → IsTrue test ↔ AreRead uses → test ≡ true
+    → HasValues line.Host (texts words)
+host-valued words uses address test address_is spelled is told passes =
+    (subst IsAddressText address_is spelled, subst AreRead is (told.0 passes))
+
 pub no-place : (place : Option ℕ) (test : Bool) → test ≡ is_some place → test ≡ false → place ≡ None
 no-place None test is fails = refl
 no-place (Some n) test is fails = absurd (false≢true (sym fails ∙ is))
@@ -49,9 +56,16 @@ pub each-fault : (one : Stop) (P Q : Fault → Type 0) → ((f : Fault) → P f 
 each-fault stop.Memory P Q step h = tt
 each-fault (stop.Fault f) P Q step h = step f h
 
+-- the answer if a `?` returned this reason
+pub answer-stopped : (kind : LineKind) (before after : SoFar) (words : List Text) (result : Result (Unit {0}) Stop) (reason : Stop)
+    → IsErrAnd result (λ one. one ≡ reason) → IfFault reason (IsFaulty kind before words) → IsAnswerToLine kind before words result after
+answer-stopped kind before after words (Ok u) reason is faulty = absurd is
+answer-stopped kind before after words (Err one) reason is faulty =
+    subst (λ (why : Stop). IfFault why (IsFaulty kind before words)) (sym is) faulty
+
 pub line-said-by : (kind : LineKind) (before after made : SoFar) (words : List Text) (result : Result (Unit {0}) Stop)
     → IsGood kind before words → made ≡ after_line kind before words → OnOk result (after ≡ made)
-    → IfErr result (λ stopped. stopped ≡ stop.Memory) → IsAnswer kind before words result after
+    → IfErr result (λ stopped. stopped ≡ stop.Memory) → IsAnswerToLine kind before words result after
 line-said-by kind before after made words (Ok u) good is said memory = (good, said ∙ is)
 line-said-by kind before after made words (Err stopped) good is said memory =
     subst (λ (one : Stop). IfFault one (IsFaulty kind before words)) (sym memory) tt

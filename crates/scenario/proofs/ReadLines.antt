@@ -5,7 +5,7 @@ use Rattle.std.proofs.Common.{length, get_or, take, drop, add-zero, ap, get_or-d
 use Rattle.std.proofs.lemmas.List.{drop-drop, drop_all, take_all}
 use Rattle.std.proofs.lemmas.List.Sums.{fold_more}
 use Rattle.std.specs.Str.Lines.{lines}
-use Rattle.scenario.specs.Answers.{AreGood, IsFaultyLine, IsGoodLine, IsRead, IsRefused, IsRefusedAt, after_words, said_by}
+use Rattle.scenario.specs.Answers.{AreGood, IsFaultyLine, IsGoodLine, IsScenarioRead, IsRefused, IsRefusedAt, after_words, said_by}
 use Rattle.scenario.specs.SoFar.{SoFar, nothing_read}
 use Rattle.scenario.specs.Words.{Text, word, words_of}
 use Rattle.scenario.specs.Stops.{IfFault, refusal_at}
@@ -57,7 +57,7 @@ read_more text start count taken said after bytes rest before same first some mo
           ∙ sym (fold_more (λ front line. after_words front (words_of line)) nothing_read all count [] place);
     }
 
-pub read_all : (text : Text) (start count : ℕ) (said : SoFar) → IsReadUpTo text start count said → length text ≤ start → IsRead text said
+pub read_all : (text : Text) (start count : ℕ) (said : SoFar) → IsReadUpTo text start count said → length text ≤ start → IsScenarioRead text said
 read_all text start count said before end =
     let none : drop count (lines text) ≡ [] = before.left ∙ ap lines (drop_all start text end) in
     let short : length (lines text) ≤ count = omega (arith, length-drop count (lines text), ap length none) in

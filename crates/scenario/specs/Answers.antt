@@ -6,13 +6,15 @@ use Rattle.std.specs.Str.Lines.{lines}
 use Rattle.stations.specs.declared.tick.Tick.{Tick}
 use Rattle.std.specs.Str.{IsUtf8}
 use Rattle.scenario.specs.HostOptions.{options_asked, uses_in}
-use Rattle.scenario.specs.Kinds.{kind_named}
+use Rattle.scenario.specs.Kinds.{line_kind_named}
 use Rattle.scenario.specs.Meanings.{AreKnown, HasCount, HasHostNames, HasOrder, HasValues}
-use Rattle.scenario.specs.Meanings.{IsRoomAt, after_line, are_ticks, are_ticks_of, changed_first, number_of, option_words, ticks_in}
+use Rattle.scenario.specs.Meanings.{IsRoomAt, after_line, are_ticks, are_ticks_of, changed_first, items_held, most_items, number_of}
+use Rattle.scenario.specs.Meanings.{option_words, ticks_in, with_item}
 use Rattle.scenario.specs.SoFar.{Host, SoFar, has_name, nothing_read}
 use Rattle.scenario.specs.Spellings.{address_in}
 use Rattle.scenario.specs.Stops.{IfFault}
 use Rattle.scenario.specs.Words.{Text, word, words_of}
+use Rattle.scenario.specs.declared.host_change.Item.{Item}
 use Rattle.scenario.specs.declared.host_use.HostOptions.{HostOptions}
 use Rattle.scenario.specs.declared.line_kind.LineKind.{LineKind}
 use Rattle.scenario.specs.declared.line_kind.LineKind.TheVariants as line
@@ -23,8 +25,8 @@ use Rattle.scenario.specs.declared.refusal.Refusal.TheVariants as refusal
 use Rattle.scenario.specs.declared.refusal.Stop.{Stop}
 
 -- the maximum number of bytes of a line
-abbrev pub most_line_bytes : ℕ
-most_line_bytes = 8192
+abbrev pub most_scenario_line_bytes : ℕ
+most_scenario_line_bytes = 8192
 
 -- A line of this kind with these words is valid after the lines read so far (`before`).
 pub record IsGood (kind : LineKind) (before : SoFar) (words : List Text) : Type 0 where
@@ -43,15 +45,19 @@ IsFaulty kind before words fault.Order =
 IsFaulty kind before words _ = ⊥
 
 -- the result of reading a line of this kind: Ok for a valid line, or its fault, or that memory was refused
-abbrev pub IsAnswer : LineKind → SoFar → List Text → Result (Unit {0}) Stop → SoFar → Type 0
-IsAnswer kind before words (Ok u) after = IsGood kind before words × (after ≡ after_line kind before words)
-IsAnswer kind before words (Err stop) after = IfFault stop (IsFaulty kind before words)
+abbrev pub IsAnswerToLine : LineKind → SoFar → List Text → Result (Unit {0}) Stop → SoFar → Type 0
+IsAnswerToLine kind before words (Ok u) after = IsGood kind before words × (after ≡ after_line kind before words)
+IsAnswerToLine kind before words (Err stop) after = IfFault stop (IsFaulty kind before words)
 
 -- The result of adding an item to a host: Ok if the host has room, and then the item was added; Name if the host has no
 -- room.
 abbrev pub IsGrowth : (Host → ℕ) → ℕ → (Host → Host) → Host → Result (Unit {0}) Fault → Host → Type 0
 IsGrowth held most change host (Ok u) after = (held host < most) × (after ≡ change host)
 IsGrowth held most change host (Err stopped) after = (stopped ≡ fault.Name) × (¬ (held host < most))
+
+-- the result of adding this item to a host, and the host after the call
+abbrev pub Gains : Item → Host → Result (Unit {0}) Fault → Host → Type 0
+Gains one = IsGrowth (items_held one) (most_items one) (with_item one)
 
 -- The result of adding an item to the first host of this name: Ok if there is such a host and it has room, and then the
 -- item was added. Name if there is no such host, or it has no room.
@@ -87,7 +93,7 @@ IsFaultyCall hosts name ticks _ = ⊥
 
 -- A line has at most 8,192 bytes, and is UTF-8.
 pub record IsReadable (line : Text) : Type 0 where
-  pub size : length line ≤ most_line_bytes
+  pub size : length line ≤ most_scenario_line_bytes
   pub text : IsUtf8 line
 
 -- Whether a line with these words is skipped: there is no word, or the first word begins with # (0x23).
@@ -99,18 +105,18 @@ is_skipped (first ∷ words) = slice_index first 0 == 0x23
 pub record IsGoodLine (before : SoFar) (line : Text) : Type 0 where
   pub readable : IsReadable line
   pub said : is_skipped (words_of line) ≡ false
-      → IsSomeAnd (kind_named (word 0 (words_of line))) (λ kind. IsGood kind before (words_of line))
+      → IsSomeAnd (line_kind_named (word 0 (words_of line))) (λ kind. IsGood kind before (words_of line))
 
 -- The fault of a line with these words that isn't skipped is the first of Word, Count, Value, Name and Order that
 -- applies.
 abbrev pub IsFaultySaying : SoFar → List Text → Fault → Type 0
-IsFaultySaying before words fault.Word = kind_named (word 0 words) ≡ None
-IsFaultySaying before words one = IsSomeAnd (kind_named (word 0 words)) (λ kind. IsFaulty kind before words one)
+IsFaultySaying before words fault.Word = line_kind_named (word 0 words) ≡ None
+IsFaultySaying before words one = IsSomeAnd (line_kind_named (word 0 words)) (λ kind. IsFaulty kind before words one)
 
 -- The fault of a line is the first of Long, Text, Word, Count, Value, Name and Order that applies.
 abbrev pub IsFaultyLine : SoFar → Text → Fault → Type 0
-IsFaultyLine before line fault.Long = most_line_bytes < length line
-IsFaultyLine before line fault.Text = (length line ≤ most_line_bytes) × (¬ IsUtf8 line)
+IsFaultyLine before line fault.Long = most_scenario_line_bytes < length line
+IsFaultyLine before line fault.Text = (length line ≤ most_scenario_line_bytes) × (¬ IsUtf8 line)
 IsFaultyLine before line one = IsReadable line × (is_skipped (words_of line) ≡ false) × IsFaultySaying before (words_of line) one
 
 -- the hosts, commands and traces after a line of this kind; a line without a kind changes nothing
@@ -120,13 +126,13 @@ after_kind None before words = before
 
 -- the hosts, commands and traces after a line with these words; a skipped line changes nothing
 abbrev pub after_words : SoFar → List Text → SoFar
-after_words before words = if is_skipped words then before else after_kind (kind_named (word 0 words)) before words
+after_words before words = if is_skipped words then before else after_kind (line_kind_named (word 0 words)) before words
 
 -- the result of reading the words of a line: Ok if the line is valid or skipped, or its fault, or that memory was
 -- refused
 abbrev pub IsWordsAnswer : SoFar → List Text → Result (Unit {0}) Stop → SoFar → Type 0
 IsWordsAnswer before words (Ok u) after =
-    (is_skipped words ≡ false → IsSomeAnd (kind_named (word 0 words)) (λ kind. IsGood kind before words))
+    (is_skipped words ≡ false → IsSomeAnd (line_kind_named (word 0 words)) (λ kind. IsGood kind before words))
     × (after ≡ after_words before words)
 IsWordsAnswer before words (Err stop) after = IfFault stop (λ one. (is_skipped words ≡ false) × IsFaultySaying before words one)
 
@@ -145,7 +151,7 @@ abbrev pub AreGood : ℕ → List Text → Type 0
 AreGood count all = (k : ℕ) → k < count → IsGoodLine (said_by (take k all)) (word k all)
 
 -- A text is read: all its lines are readable, and valid or skipped. `read` contains their hosts, commands and traces.
-pub record IsRead (text : Text) (read : SoFar) : Type 0 where
+pub record IsScenarioRead (text : Text) (read : SoFar) : Type 0 where
   pub good : AreGood (length (lines text)) (lines text)
   pub said : read ≡ said_by (lines text)
 

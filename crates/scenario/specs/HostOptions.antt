@@ -76,14 +76,14 @@ uses_in (word ∷ value ∷ words) =
     if follows (option_named word) then use_with (option_named word) value ∷ uses_in words
     else use_without (option_named word) ∷ uses_in (value ∷ words)
 
-abbrev pub is_same : OptionKind → OptionKind → Bool
-is_same option.Rx option.Rx = true
-is_same option.Tx option.Tx = true
-is_same option.Buffers option.Buffers = true
-is_same option.Rxa option.Rxa = true
-is_same option.Link option.Link = true
-is_same option.Promiscuous option.Promiscuous = true
-is_same _ _ = false
+abbrev pub is_same_option : OptionKind → OptionKind → Bool
+is_same_option option.Rx option.Rx = true
+is_same_option option.Tx option.Tx = true
+is_same_option option.Buffers option.Buffers = true
+is_same_option option.Rxa option.Rxa = true
+is_same_option option.Link option.Link = true
+is_same_option option.Promiscuous option.Promiscuous = true
+is_same_option _ _ = false
 
 abbrev pub kind_of_use : HostUse → Option OptionKind
 kind_of_use uses.Unknown = None
@@ -97,7 +97,7 @@ kind_of_use (uses.Link l) = Some option.Link
 kind_of_use uses.Promiscuous = Some option.Promiscuous
 
 abbrev pub is_some_of : OptionKind → Option OptionKind → Bool
-is_some_of kind (Some own) = is_same own kind
+is_some_of kind (Some own) = is_same_option own kind
 is_some_of kind None = false
 
 -- whether this is a use of this option

@@ -27,5 +27,5 @@ kinds =
     ∷ []
 
 -- the kind of the lines that begin with a word; None if there is no such kind
-unfoldable pub kind_named : Text → Option LineKind
-kind_named word = value_in kinds word
+unfoldable pub line_kind_named : Text → Option LineKind
+line_kind_named word = value_in kinds word

@@ -11,8 +11,8 @@ use Rattle.stations.specs.declared.tick.Tick.{Tick}
 use Rattle.stations.specs.declared.tick.Tick.TheVariants as tick
 use Rattle.scenario.specs.HostOptions.{AreCounted, AreRead, options_asked, uses_in}
 use Rattle.scenario.specs.SoFar.{Host, Said, SoFar, Sends, Receives, Interrupts, Resets, Joins, Leaves, Ticks, Feeds, Draws, Drains}
-use Rattle.scenario.specs.SoFar.{has_name, place_of}
-use Rattle.scenario.specs.Spellings.{IsAddress, IsFrame, address_in, frame_in, socket_in}
+use Rattle.scenario.specs.SoFar.{has_name, host_place}
+use Rattle.scenario.specs.Spellings.{IsAddressText, IsFrame, address_in, frame_in, socket_in}
 use Rattle.text.specs.Numbers.{is_number}
 use Rattle.text.specs.Words.{words_after, words_before}
 use Rattle.scenario.specs.TickWords.{is_tick, tick_named}
@@ -29,16 +29,7 @@ use Rattle.scenario.specs.declared.line_kind.ItemKind.TheVariants as item
 use Rattle.scenario.specs.declared.line_kind.LineKind.{LineKind}
 use Rattle.scenario.specs.declared.line_kind.LineKind.TheVariants as line
 
--- the maximum number of groups of a host
-abbrev pub most_groups : ℕ
-most_groups = 32
-
-abbrev pub most_vlans : ℕ
-most_vlans = 32
-
-abbrev pub most_sockets : ℕ
-most_sockets = 8
-
+-- the maximum number of events of an `auto` line
 abbrev pub most_events : ℕ
 most_events = 1000000
 
@@ -93,7 +84,7 @@ HasCount line.Drain words = length words ≡ 2
 
 -- A text has the form of an item of this kind.
 abbrev pub IsItem : ItemKind → Text → Type 0
-IsItem item.Group text = IsAddress text
+IsItem item.Group text = IsAddressText text
 IsItem item.Vlan text = is_number 10 16 text ≡ true
 IsItem item.Socket text = IsSome (socket_in text)
 
@@ -103,12 +94,12 @@ CanAsk call.Send words = IsFrame (word 2 words)
 CanAsk call.Recv words = is_number 10 64 (word 2 words) ≡ true
 CanAsk call.Interrupt words = Unit {0}
 CanAsk call.Reset words = Unit {0}
-CanAsk call.Join words = IsAddress (word 2 words)
-CanAsk call.Leave words = IsAddress (word 2 words)
+CanAsk call.Join words = IsAddressText (word 2 words)
+CanAsk call.Leave words = IsAddressText (word 2 words)
 
 -- Each word of a line of this kind has the form for its place.
 abbrev pub HasValues : LineKind → List Text → Type 0
-HasValues line.Host words = IsAddress (word 2 words) × AreRead (uses_in (option_words words))
+HasValues line.Host words = IsAddressText (word 2 words) × AreRead (uses_in (option_words words))
 HasValues (line.Item one) words = IsItem one (word 2 words)
 HasValues (line.Call one) words = CanAsk one (call_words words) × (are_ticks (tick_words words) ≡ true)
 HasValues line.Tick words = is_tick (word 1 words) ≡ true
@@ -135,10 +126,11 @@ items_held (items.Group group) = groups_held
 items_held (items.Vlan vlan) = vlans_held
 items_held (items.Socket socket) = sockets_held
 
+-- the maximum number of a host's items of the same kind as this item
 abbrev pub most_items : Item → ℕ
-most_items (items.Group group) = most_groups
-most_items (items.Vlan vlan) = most_vlans
-most_items (items.Socket socket) = most_sockets
+most_items (items.Group group) = 32
+most_items (items.Vlan vlan) = 32
+most_items (items.Socket socket) = 8
 
 abbrev pub number_read : Text → ℕ
 number_read text = digits_value 10 text
@@ -154,7 +146,7 @@ abbrev pub IsRoomFor : Text → Item → List Host → Type 0
 IsRoomFor name one hosts = IsRoomAt name (items_held one) (most_items one) hosts
 
 abbrev pub NamesHost : Text → List Host → Type 0
-NamesHost name hosts = IsSome (place_of name hosts)
+NamesHost name hosts = IsSome (host_place name hosts)
 
 -- There is a host of this name, and each tick is `go` or at a known host.
 pub record AreKnown (hosts : List Host) (name : Text) (ticks : List Text) : Type 0 where
@@ -164,7 +156,7 @@ pub record AreKnown (hosts : List Host) (name : Text) (ticks : List Text) : Type
 -- The hosts that the line names are known; for a `host` line, the name of the new host isn't known. For a new item, the
 -- first host of this name has room.
 abbrev pub HasHostNames : LineKind → List Host → List Text → Type 0
-HasHostNames line.Host hosts words = place_of (word 1 words) hosts ≡ None
+HasHostNames line.Host hosts words = host_place (word 1 words) hosts ≡ None
 HasHostNames (line.Item one) hosts words = IsRoomFor (word 1 words) (item_in one (word 2 words)) hosts
 HasHostNames (line.Call one) hosts words = AreKnown hosts (word 1 (call_words words)) (tick_words words)
 HasHostNames line.Tick hosts words = IsSome (tick_named hosts (word 1 words))
@@ -262,7 +254,7 @@ pub record IsAsked (kind : CallKind) (words : List Text) (one : Asked) : Type 0 
 
 -- the number of the first host of this name, or 0 if there is no such host
 abbrev pub number_of : Text → List Host → ℕ
-number_of name hosts = unwrap_or (place_of name hosts) 0
+number_of name hosts = unwrap_or (host_place name hosts) 0
 
 -- the hosts, commands and traces after a valid line of this kind with these words
 abbrev pub after_line : LineKind → SoFar → List Text → SoFar

@@ -55,18 +55,18 @@ pub data Said : Type 0 where
   Drains : (host : ℕ) → Said
 
 -- the command of an event
-abbrev pub event_of : Event → Said
-event_of (event.Send host frame ticks) = Sends host frame.items ticks.items
-event_of (event.Recv host socket ticks) = Receives host socket ticks.items
-event_of (event.Interrupt host ticks) = Interrupts host ticks.items
-event_of (event.Reset host ticks) = Resets host ticks.items
-event_of (event.Join host group ticks) = Joins host group ticks.items
-event_of (event.Leave host group ticks) = Leaves host group ticks.items
-event_of (event.Tick tick) = Ticks tick
+abbrev pub command_of_event : Event → Said
+command_of_event (event.Send host frame ticks) = Sends host frame.items ticks.items
+command_of_event (event.Recv host socket ticks) = Receives host socket ticks.items
+command_of_event (event.Interrupt host ticks) = Interrupts host ticks.items
+command_of_event (event.Reset host ticks) = Resets host ticks.items
+command_of_event (event.Join host group ticks) = Joins host group ticks.items
+command_of_event (event.Leave host group ticks) = Leaves host group ticks.items
+command_of_event (event.Tick tick) = Ticks tick
 
 -- a command of a scenario, with the bytes of its frame and the list of its ticks
 abbrev pub said_of : Command → Said
-said_of (command.Event one) = event_of one
+said_of (command.Event one) = command_of_event one
 said_of (command.Feed host trace) = Feeds host trace
 said_of (command.Auto count start) = Draws count start
 said_of (command.Drain host) = Drains host
@@ -97,5 +97,5 @@ abbrev pub has_name : Text → Host → Bool
 has_name name host = bytes_eq host.name name
 
 -- the number of the first host of this name; None if there is no such host
-abbrev pub place_of : Text → List Host → Option ℕ
-place_of name hosts = position (has_name name) hosts
+abbrev pub host_place : Text → List Host → Option ℕ
+host_place name hosts = position (has_name name) hosts

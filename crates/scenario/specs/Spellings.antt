@@ -20,8 +20,8 @@ abbrev pub address_in : Text → List ℕ
 address_in text = map (byte_at text) (0 ∷ 3 ∷ 6 ∷ 9 ∷ 12 ∷ 15 ∷ [])
 
 -- The text is six pairs of hexadecimal digits joined by colons.
-abbrev pub IsAddress : Text → Type 0
-IsAddress text = SpellsAddress text (address_in text)
+abbrev pub IsAddressText : Text → Type 0
+IsAddressText text = SpellsAddress text (address_in text)
 
 -- the maximum number of hexadecimal digits of a frame
 abbrev pub most_frame_digits : ℕ

@@ -5,7 +5,7 @@ use Rattle.std.specs.Str.{bytes_eq}
 use Rattle.adapter.specs.declared.step.StepKind.TheVariants as step
 use Rattle.stations.specs.declared.tick.Tick.{Tick}
 use Rattle.stations.specs.declared.tick.Tick.TheVariants as tick
-use Rattle.scenario.specs.SoFar.{Host, place_of}
+use Rattle.scenario.specs.SoFar.{Host, host_place}
 use Rattle.text.specs.Tables.{value_in}
 use Rattle.scenario.specs.Words.{Text}
 use Rattle.scenario.specs.declared.tick_word.TickKind.{TickKind}
@@ -31,8 +31,8 @@ abbrev pub is_colon : ℕ → Bool
 is_colon byte = byte == 0x3A
 
 -- the part of a word before its first colon, which names a kind of ticks
-abbrev pub kind_word : Text → Text
-kind_word word = before_first is_colon word
+abbrev pub tick_kind_word : Text → Text
+tick_kind_word word = before_first is_colon word
 
 -- the part of a word after its first colon, which names a host
 abbrev pub host_word : Text → Text
@@ -44,7 +44,7 @@ has_colon word = nat_lt (position_or_len is_colon word) (length word)
 
 -- whether a word spells a tick: `go`, or the name of a kind, a colon, and any name of a host
 abbrev pub is_tick : Text → Bool
-is_tick word = bytes_eq word (codes "go") || (has_colon word && is_some (tick_kind_named (kind_word word)))
+is_tick word = bytes_eq word (codes "go") || (has_colon word && is_some (tick_kind_named (tick_kind_word word)))
 
 abbrev pub tick_at : TickKind → ℕ → Tick
 tick_at (ticks.Step kind) host = tick.Step host kind
@@ -59,5 +59,5 @@ tick_if None host = None
 abbrev pub tick_named : List Host → Text → Option Tick
 tick_named hosts word =
     if bytes_eq word (codes "go") then Some tick.Go
-    else if has_colon word then tick_if (tick_kind_named (kind_word word)) (place_of (host_word word) hosts)
+    else if has_colon word then tick_if (tick_kind_named (tick_kind_word word)) (host_place (host_word word) hosts)
     else None

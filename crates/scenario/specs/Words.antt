@@ -3,5 +3,5 @@ use Rattle.std.specs.Prelude.{◌==◌, ℕ, Bool}
 pub use Rattle.text.specs.Words.{Text, texts, word, words_of}
 
 -- whether a byte is a line feed
-abbrev pub is_feed : ℕ → Bool
-is_feed byte = byte == 0x0A
+abbrev pub is_line_feed : ℕ → Bool
+is_line_feed byte = byte == 0x0A

@@ -45,7 +45,7 @@ pub struct Scenario {
 
 impl Scenario {
     ghost use Rattle.std.specs.Prelude.{◌≡◌};
-    ghost use Rattle.scenario.specs.SoFar.{place_of, so_far};
+    ghost use Rattle.scenario.specs.SoFar.{host_place, so_far};
 
     /// Returns the hosts of the plan, in order.
     pub(crate) fn hosts(&self) -> &[HostPlan]
@@ -56,7 +56,7 @@ impl Scenario {
 
     /// Returns the number of the first host with this name; `None` if there is no such host.
     pub(crate) fn host_named(&self, name: &str) -> Option<usize>
-        ensures { result ≡ place_of name.now (so_far self.now).hosts }
+        ensures { result ≡ host_place name.now (so_far self.now).hosts }
     {
         host_named(self.hosts(), name)
     }

@@ -3,9 +3,9 @@
 ghost use Rattle.std.specs.Prelude.{◌≡◌, IfErr, IfOk, OnOk, length, true};
 ghost use Rattle.std.specs.Option.{SomeIff};
 ghost use Rattle.std.specs.Str.Parse.{digits_value};
-ghost use Rattle.scenario.specs.Answers.{AreTicks, IsAnswer, IsCall, IsFaultyCall};
+ghost use Rattle.scenario.specs.Answers.{AreTicks, IsAnswerToLine, IsCall, IsFaultyCall};
 ghost use Rattle.scenario.specs.Meanings as meanings;
-ghost use Rattle.scenario.specs.SoFar.{event_of, hosts_of, said_of, so_far};
+ghost use Rattle.scenario.specs.SoFar.{command_of_event, hosts_of, said_of, so_far};
 ghost use Rattle.scenario.specs.Stops.{IfFault};
 ghost use Rattle.scenario.specs.Words.{texts};
 ghost use Rattle.scenario.specs.declared.line_kind.LineKind.TheVariants as line;
@@ -110,7 +110,7 @@ enum Asked {
 impl Asked {
     /// Returns the event of this call at a host, during which these ticks are played.
     fn event(self, host: usize, ticks: Vec<Tick>) -> Event
-        ensures { event_of result ≡ meanings.said_asking self host ticks.items }
+        ensures { command_of_event result ≡ meanings.said_asking self host ticks.items }
     {
         match self {
             Asked::Send(frame) => Event::Send { host, frame, ticks },
@@ -179,7 +179,7 @@ pub(crate) fn read_call(
     kind: CallKind,
     words: &[&str],
 ) -> Result<(), Stop>
-    ensures { IsAnswer (line.Call kind) (so_far scenario.old) (texts words.now) result (so_far scenario.new) }
+    ensures { IsAnswerToLine (line.Call kind) (so_far scenario.old) (texts words.now) result (so_far scenario.new) }
 {
     let (call, ticks) = split_at_word(words, SLASH);
     if call.len() != size_of_call(kind) {
@@ -192,7 +192,7 @@ pub(crate) fn read_call(
 
 /// Reads a line `tick TICK`.
 pub(crate) fn read_tick(scenario: &mut Scenario, words: &[&str]) -> Result<(), Stop>
-    ensures { IsAnswer line.Tick (so_far scenario.old) (texts words.now) result (so_far scenario.new) }
+    ensures { IsAnswerToLine line.Tick (so_far scenario.old) (texts words.now) result (so_far scenario.new) }
 {
     if words.len() != 2 {
         return Err(Stop::Fault(Fault::Count));
@@ -209,7 +209,7 @@ pub(crate) fn read_tick(scenario: &mut Scenario, words: &[&str]) -> Result<(), S
 
 /// Reads a line `feed HOST FILE`.
 pub(crate) fn read_feed(alloc: Global, scenario: &mut Scenario, words: &[&str]) -> Result<(), Stop>
-    ensures { IsAnswer line.Feed (so_far scenario.old) (texts words.now) result (so_far scenario.new) }
+    ensures { IsAnswerToLine line.Feed (so_far scenario.old) (texts words.now) result (so_far scenario.new) }
 {
     if words.len() != 3 {
         return Err(Stop::Fault(Fault::Count));
@@ -237,7 +237,7 @@ fn count_of(text: &str) -> Option<u32>
 
 /// Reads a line `auto COUNT START`.
 pub(crate) fn read_auto(scenario: &mut Scenario, words: &[&str]) -> Result<(), Stop>
-    ensures { IsAnswer line.Auto (so_far scenario.old) (texts words.now) result (so_far scenario.new) }
+    ensures { IsAnswerToLine line.Auto (so_far scenario.old) (texts words.now) result (so_far scenario.new) }
 {
     if words.len() != 3 {
         return Err(Stop::Fault(Fault::Count));
@@ -253,7 +253,7 @@ pub(crate) fn read_auto(scenario: &mut Scenario, words: &[&str]) -> Result<(), S
 
 /// Reads a line `drain HOST`.
 pub(crate) fn read_drain(scenario: &mut Scenario, words: &[&str]) -> Result<(), Stop>
-    ensures { IsAnswer line.Drain (so_far scenario.old) (texts words.now) result (so_far scenario.new) }
+    ensures { IsAnswerToLine line.Drain (so_far scenario.old) (texts words.now) result (so_far scenario.new) }
 {
     if words.len() != 2 {
         return Err(Stop::Fault(Fault::Count));

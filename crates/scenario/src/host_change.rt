@@ -1,9 +1,10 @@
 // Adds hosts to a plan, and groups, VLANs and sockets to a host.
 
 ghost use Rattle.std.specs.Prelude.{◌≡◌, ◌∷◌, ◌++◌, [], OnOk};
-ghost use Rattle.scenario.specs.Answers.{IsChange, IsGrowth};
+ghost use Rattle.scenario.specs.Answers.{Gains, IsChange};
 ghost use Rattle.scenario.specs.Meanings as meanings;
 ghost use Rattle.scenario.specs.SoFar.{host_of_plan, hosts_of};
+ghost use Rattle.scenario.specs.declared.host_change.Item.TheVariants.{Group, Socket, Vlan};
 
 use crate::host_use::HostOptions;
 use crate::refusal::Fault;
@@ -66,8 +67,7 @@ pub(crate) fn add_host(
 
 /// Adds a group to a host. Fails with [`Name`](Fault::Name) if the host has no room for another group.
 fn push_group(host: &mut HostPlan, group: [u8; 6]) -> Result<(), Fault>
-    ensures { IsGrowth meanings.groups_held meanings.most_groups (meanings.with_group group)
-        (host_of_plan host.old) result (host_of_plan host.new) }
+    ensures { Gains (Group group) (host_of_plan host.old) result (host_of_plan host.new) }
 {
     if host.config.groups.is_full() {
         return Err(Fault::Name);
@@ -79,8 +79,7 @@ fn push_group(host: &mut HostPlan, group: [u8; 6]) -> Result<(), Fault>
 /// Adds a VLAN to a host. Fails with [`Name`](Fault::Name) if the host has no room for another VLAN; then the host has
 /// lost its list of VLANs.
 fn push_vlan(host: &mut HostPlan, vlan: u16) -> Result<(), Fault>
-    ensures { IsGrowth meanings.vlans_held meanings.most_vlans (meanings.with_vlan vlan)
-        (host_of_plan host.old) result (host_of_plan host.new) }
+    ensures { Gains (Vlan vlan) (host_of_plan host.old) result (host_of_plan host.new) }
 {
     let mut vlans = host.config.vlans.take().unwrap_or(ArrayVec::new());
     if vlans.is_full() {
@@ -93,8 +92,7 @@ fn push_vlan(host: &mut HostPlan, vlan: u16) -> Result<(), Fault>
 
 /// Adds a socket to a host. Fails with [`Name`](Fault::Name) if the host has no room for another socket.
 fn push_socket(host: &mut HostPlan, kind: SocketKind) -> Result<(), Fault>
-    ensures { IsGrowth meanings.sockets_held meanings.most_sockets (meanings.with_socket kind)
-        (host_of_plan host.old) result (host_of_plan host.new) }
+    ensures { Gains (Socket kind) (host_of_plan host.old) result (host_of_plan host.new) }
 {
     if host.sockets.is_full() {
         return Err(Fault::Name);
@@ -105,8 +103,7 @@ fn push_socket(host: &mut HostPlan, kind: SocketKind) -> Result<(), Fault>
 
 /// Adds an item to a host. Fails with [`Name`](Fault::Name) if the host has no room for the item.
 fn push_item(host: &mut HostPlan, item: Item) -> Result<(), Fault>
-    ensures { IsGrowth (meanings.items_held item) (meanings.most_items item) (meanings.with_item item)
-        (host_of_plan host.old) result (host_of_plan host.new) }
+    ensures { Gains item (host_of_plan host.old) result (host_of_plan host.new) }
 {
     match item {
         Item::Group(group) => push_group(host, group),

@@ -1,7 +1,7 @@
 // Reads one line.
 
 ghost use Rattle.std.specs.Prelude.{◌≡◌};
-ghost use Rattle.scenario.specs.Answers.{IsAnswer, IsLineAnswer, IsWordsAnswer, is_skipped};
+ghost use Rattle.scenario.specs.Answers.{IsAnswerToLine, IsLineAnswer, IsWordsAnswer, is_skipped};
 ghost use Rattle.scenario.specs.SoFar.{so_far};
 ghost use Rattle.scenario.specs.Words.{texts};
 
@@ -24,7 +24,7 @@ fn read_kind(
     kind: LineKind,
     words: &[&str],
 ) -> Result<(), Stop>
-    ensures { IsAnswer kind (so_far scenario.old) (texts words.now) result (so_far scenario.new) }
+    ensures { IsAnswerToLine kind (so_far scenario.old) (texts words.now) result (so_far scenario.new) }
 {
     match kind {
         LineKind::Host => read_host(alloc, scenario, words),

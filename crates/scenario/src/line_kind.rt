@@ -1,7 +1,7 @@
 // The kinds of lines, by their first words.
 
 ghost use Rattle.std.specs.Prelude.{◌≡◌};
-ghost use Rattle.scenario.specs.Kinds.{kind_named};
+ghost use Rattle.scenario.specs.Kinds.{line_kind_named};
 
 use text::value_of;
 
@@ -71,9 +71,9 @@ const KINDS: [(&str, LineKind); 14] = [
 ];
 
 /// Returns the kind of the lines that begin with a word; `None` if no kind does.
-#[tactic(auto, unfolding(crate::specs::Kinds::kind_named))]
+#[tactic(auto, unfolding(crate::specs::Kinds::line_kind_named))]
 pub(crate) fn kind_of(word: &str) -> Option<LineKind>
-    ensures { result ≡ kind_named word.now }
+    ensures { result ≡ line_kind_named word.now }
 {
     value_of(&KINDS, word)
 }

@@ -3,9 +3,9 @@
 ghost use Rattle.std.specs.Prelude.{◌≡◌, ◌∷◌, ◌<◌, ◌≤◌, IfErr, IfOk, IfSome, drop, length, position};
 ghost use Rattle.std.specs.List.{position_or_len};
 ghost use Rattle.std.specs.Str.Lines.{lines, strip_carriage_return};
-ghost use Rattle.scenario.specs.Answers.{IsLineAnswer, IsRead, IsRefused};
+ghost use Rattle.scenario.specs.Answers.{IsLineAnswer, IsScenarioRead, IsRefused};
 ghost use Rattle.scenario.specs.SoFar.{nothing_read, so_far};
-ghost use Rattle.scenario.specs.Words.{is_feed};
+ghost use Rattle.scenario.specs.Words.{is_line_feed};
 
 use crate::command::Scenario;
 use crate::line::read_line;
@@ -15,7 +15,7 @@ use std::alloc::Global;
 
 /// Returns the index of the first line feed, or `None` if there is no line feed.
 fn first_feed(text: &[u8]) -> Option<usize>
-    ensures place { result ≡ position is_feed text.now }
+    ensures place { result ≡ position is_line_feed text.now }
     ensures within { IfSome result (λ place. place < length text.now) }
 {
     text.iter().position(|byte| *byte == b'\n')
@@ -24,7 +24,7 @@ fn first_feed(text: &[u8]) -> Option<usize>
 /// Returns the number of bytes before the first line feed, or the number of all bytes if there is no line feed.
 #[tactic(auto, using(crate::proofs::TextLines::feed_found, crate::proofs::TextLines::feed_missing))]
 fn line_end(text: &[u8]) -> usize
-    ensures end { result ≡ position_or_len is_feed text.now }
+    ensures end { result ≡ position_or_len is_line_feed text.now }
     ensures within { result ≤ length text.now }
 {
     match first_feed(text) {
@@ -100,7 +100,7 @@ impl Scenario {
     /// [`Line`](Refusal::Line) for the first faulty line, with the first of its [faults](crate::Fault), or
     /// [`Memory`](Refusal::Memory) if memory was refused.
     pub fn read(alloc: Global, text: &[u8]) -> Result<Scenario, Refusal>
-        ensures read { IfOk result (λ scenario. IsRead text.now (so_far scenario)) }
+        ensures read { IfOk result (λ scenario. IsScenarioRead text.now (so_far scenario)) }
         ensures refused { IfErr result (IsRefused text.now) }
     {
         let mut scenario = empty_scenario(alloc);

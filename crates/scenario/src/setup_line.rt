@@ -2,7 +2,7 @@
 
 ghost use Rattle.std.specs.Prelude.{◌≡◌, ◌≤◌, IfErr, IfOk, length};
 ghost use Rattle.std.specs.Option.{SomeIff};
-ghost use Rattle.scenario.specs.Answers.{IsAnswer, IsFaulty, IsHostRead};
+ghost use Rattle.scenario.specs.Answers.{IsAnswerToLine, IsFaulty, IsHostRead};
 ghost use Rattle.scenario.specs.HostOptions.{uses_in};
 ghost use Rattle.scenario.specs.Meanings.{IsItem, item_in, option_words};
 ghost use Rattle.scenario.specs.SoFar.{so_far};
@@ -94,7 +94,7 @@ fn host_values(
 
 /// Reads a line `host NAME ADDRESS WIRE`, followed by its options.
 pub(crate) fn read_host(alloc: Global, scenario: &mut Scenario, words: &[&str]) -> Result<(), Stop>
-    ensures { IsAnswer line.Host (so_far scenario.old) (texts words.now) result (so_far scenario.new) }
+    ensures { IsAnswerToLine line.Host (so_far scenario.old) (texts words.now) result (so_far scenario.new) }
 {
     let (address, options) = host_values(alloc, scenario, words)?;
     let (name, wire) = (word_at(words, 1), word_at(words, 3));
@@ -122,7 +122,7 @@ fn item_of(kind: ItemKind, text: &str) -> Option<Item>
 
 /// Reads a line `group HOST ADDRESS`, `vlan HOST N`, `socket HOST N` or `socket HOST all`.
 pub(crate) fn read_item(scenario: &mut Scenario, kind: ItemKind, words: &[&str]) -> Result<(), Stop>
-    ensures { IsAnswer (line.Item kind) (so_far scenario.old) (texts words.now) result (so_far scenario.new) }
+    ensures { IsAnswerToLine (line.Item kind) (so_far scenario.old) (texts words.now) result (so_far scenario.new) }
 {
     if words.len() != ITEM_WORDS {
         return Err(Stop::Fault(Fault::Count));

@@ -2,7 +2,7 @@
 
 ghost use Rattle.std.specs.Prelude.{◌≡◌, IfErr, IfOk};
 ghost use Rattle.std.specs.Option.{SomeIff};
-ghost use Rattle.scenario.specs.Spellings.{IsAddress, IsFrame, address_in, ether_type_in, frame_in};
+ghost use Rattle.scenario.specs.Spellings.{IsAddressText, IsFrame, address_in, ether_type_in, frame_in};
 ghost use Rattle.scenario.specs.Spellings.{socket_in};
 ghost use Rattle.scenario.specs.Stops.{IfFault};
 ghost use Rattle.scenario.specs.declared.refusal.Fault.TheVariants as faults;
@@ -68,7 +68,7 @@ pub(crate) fn socket_of(text: &str) -> Option<SocketKind>
 
 /// Returns the address that six pairs of hexadecimal digits spell, joined by colons; `None` for any other text.
 pub(crate) fn address_of(text: &str) -> Option<[u8; 6]>
-    ensures { SomeIff result (IsAddress text.now) (address_in text.now) }
+    ensures { SomeIff result (IsAddressText text.now) (address_in text.now) }
 {
     text::address_of(text)
 }

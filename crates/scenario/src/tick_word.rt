@@ -1,7 +1,7 @@
 // The words that spell ticks.
 
 ghost use Rattle.std.specs.Prelude.{◌≡◌, ◌<◌, IfSome, length};
-ghost use Rattle.scenario.specs.SoFar.{hosts_of, place_of};
+ghost use Rattle.scenario.specs.SoFar.{hosts_of, host_place};
 ghost use Rattle.scenario.specs.TickWords as words;
 
 use adapter::StepKind;
@@ -51,7 +51,7 @@ fn tick_kind_of(word: &str) -> Option<TickKind>
 
 /// Returns the number of the first host with this name; `None` if there is no such host.
 pub(crate) fn host_named(hosts: &[HostPlan], name: &str) -> Option<usize>
-    ensures place { result ≡ place_of name.now (hosts_of hosts.now) }
+    ensures place { result ≡ host_place name.now (hosts_of hosts.now) }
     ensures there { IfSome result (λ host. host < length hosts.now) }
 {
     hosts.iter().position(|host| host.name.as_str() == name)

@@ -24,19 +24,3 @@ returns-clause-bounds c = (
   of_given_or_default SpellsLink (After 1) IsLink default_link spelled_link (text_in c.args.matches.now (codes "link")) _
       c.in_ok-link.ensures.value,
 )
-
-pub returns-clause-job : goal.returns-clause-job
-returns-clause-job c = (
-  refl,
-  record {
-    memory = c.in_ok-number_or.ensures.value;
-    registers = c.in_ok-number_or-2.ensures.value;
-    image = c.in_ok-image.ensures.value;
-    link = c.in_ok-link.ensures.value;
-    kilobytes = c.in_ok-number_or-3.ensures.value;
-    seed = c.in_ok-number_or-4.ensures.value;
-    missed = c.in_ok-number_or-5.ensures.value;
-    schedule = c.text.ensures;
-    «record» = c.text-2.ensures;
-  },
-)

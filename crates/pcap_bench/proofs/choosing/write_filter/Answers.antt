@@ -1,7 +1,7 @@
 use Rattle.std.proofs.Common.{ℕ, ap, ◌∙◌}
 use Rattle.adapter.specs.Registers.{after_write}
 use Rattle.adapter.specs.State.{AdapterState}
-use Rattle.pcap_bench.specs.Choosing.{with_group, with_vlan}
+use Rattle.pcap_bench.specs.Choosing.{with_group_bit, with_vlan_bit}
 use Rattle.pcap_bench.proofs.Writes.{wrote-vet}
 use Rattle.pcap_bench.proofs.choosing.write_filter.Goals as goal
 
@@ -13,8 +13,8 @@ returns-clause-written c =
     ∙ wrote-vet c.write_vlan.new.adapter
     ∙ ap (λ (s : AdapterState). record s { filter = record s.filter { vet = 0x8100 } }) (
     c.write_vlan.ensures
-    ∙ ap (λ (s : AdapterState). record s { filter = with_vlan options.vlan s.filter }) (
+    ∙ ap (λ (s : AdapterState). record s { filter = with_vlan_bit options.vlan s.filter }) (
     c.write_group.ensures
-    ∙ ap (λ (s : AdapterState). record s { filter = with_group options.group s.filter }) c.write_address.ensures.written
+    ∙ ap (λ (s : AdapterState). record s { filter = with_group_bit options.group s.filter }) c.write_address.ensures.written
     )
     )

@@ -1,7 +1,7 @@
 use Rattle.std.proofs.Common.{◌+◌, ◌*◌, ◌/◌, ◌%◌, ◌^◌, ℕ, List, Option, sym, ap, ◌∙◌, arith}
 use Rattle.rx_engine.specs.Addresses.{group_number}
 use Rattle.adapter.specs.Registers.{after_write}
-use Rattle.pcap_bench.specs.Choosing.{with_group}
+use Rattle.pcap_bench.specs.Choosing.{with_group_bit}
 use Rattle.pcap_bench.proofs.Writes.{wrote-group}
 use Rattle.pcap_bench.proofs.choosing.write_group.Goals as goal
 
@@ -11,4 +11,4 @@ returns-in-Some c =
     c.write_number.ensures
     ∙ ap (λ (n : ℕ). after_write (0x5200 + 4 * (n / 32)) (2 ^ (n % 32)) state) c.hash_of.ensures
     ∙ wrote-group (group_number 4 c.in-Some.group) state (omega arith)
-    ∙ ap (λ (o : Option (List ℕ)). record state { filter = with_group o state.filter }) (sym c.in-Some.is)
+    ∙ ap (λ (o : Option (List ℕ)). record state { filter = with_group_bit o state.filter }) (sym c.in-Some.is)

@@ -1,6 +1,6 @@
 use Rattle.std.proofs.Common.{◌≤◌, ℕ, Option, sym, ap, subst, ◌∙◌}
 use Rattle.std.specs.Prelude.{IfSome}
-use Rattle.pcap_bench.specs.Choosing.{with_vlan}
+use Rattle.pcap_bench.specs.Choosing.{with_vlan_bit}
 use Rattle.pcap_bench.proofs.Writes.{wrote-vlan}
 use Rattle.pcap_bench.proofs.choosing.write_vlan.Goals as goal
 
@@ -9,4 +9,4 @@ returns-in-Some c =
     let state = c.args.adapter.now in
     let below = subst (λ (o : Option ℕ). IfSome o (λ n. n ≤ 4095)) c.in-Some.is c.requires in
     c.write_number.ensures ∙ wrote-vlan c.in-Some.number state below
-    ∙ ap (λ (o : Option ℕ). record state { filter = with_vlan o state.filter }) (sym c.in-Some.is)
+    ∙ ap (λ (o : Option ℕ). record state { filter = with_vlan_bit o state.filter }) (sym c.in-Some.is)

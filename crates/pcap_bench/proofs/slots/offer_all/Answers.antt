@@ -1,7 +1,7 @@
 use Rattle.std.proofs.Common.{◌≡◌, ◌+◌, ◌*◌, ℕ, List, length, inl, inr, ap, ◌∙◌, arith}
 use Rattle.dma_memory.specs.Layout.{Counts, start_of, ReceiveBuffer}
 use Rattle.rx_engine.specs.Descriptors.{named_address}
-use Rattle.pcap_bench.specs.Lane.{buffer_at}
+use Rattle.pcap_bench.specs.Lane.{lane_buffer}
 use Rattle.pcap_bench.proofs.Lanes.{length-offer, NameBelow-offered}
 use Rattle.pcap_bench.proofs.slots.offer_all.Goals as goal
 
@@ -10,7 +10,7 @@ loop-slot-preserved c =
     let slot = c.loop-slot.slot in
     let memory = c.loop-slot.memory in
     let buffer = c.receive_buffer.result in
-    let is : buffer ≡ buffer_at slot = c.receive_buffer.ensures.start
+    let is : buffer ≡ lane_buffer slot = c.receive_buffer.ensures.start
     ∙ ap (λ (counts : Counts). start_of counts (ReceiveBuffer (slot * 8))) c.requires.layout ∙ omega arith in
     let named = NameBelow-offered memory slot (slot + 1) buffer c.loop-slot-test.true c.loop-slot.invariant.size is
     (λ k below other. c.loop-slot.invariant.named k (elim other [ inl before ↦ before | inr after ↦ absurd (omega arith) ])) in

@@ -45,40 +45,28 @@ packets-preserved g c =
     ∙ sym (word-read number first 12 held all left next (omega arith) c.in_ok-fill-2.ensures.received) in
     let used = uses_joined (uses_joined c.packets.invariant.used c.in_ok-fill.ensures.used) c.in_ok-fill-2.ensures.used in
     let text : take (16 + n - 16) (drop 16 all) ≡ take n (drop 16 all) = ap (λ (k : ℕ). take k (drop 16 all)) (omega arith) in
-    elim c.if-lengths.branch [
-      | then-lengths w ↦ record {
-        countable = c.in_ok-fill-2.ensures.failures ∙ c.in_ok-fill.ensures.failures ∙ c.packets.invariant.countable;
-        room = omega (
-          arith,
-          ap length c.skip.ensures.rest,
-          length-drop
-              (16 + n) all,
-          w.skipped-is,
-          ap length c.held-in-packets.ensures,
-          c.in_ok-fill.ensures.limit,
-          c.in_ok-fill-2.ensures.limit,
-          c.packets.invariant.room,
-        );
-        used = used;
-        so_far = rw (c.skip.ensures.rest, w.frames-is, w.skipped-is)
+    let counted : c.if-lengths.skipped ≤ c.packets.skipped + 1 = elim c.if-lengths.branch [
+      | then-lengths w ↦ omega (arith, w.skipped-is)
+      | else-lengths+in_ok-push w ↦ omega (arith, w.skipped-is)
+    ] in
+    record {
+      countable = c.in_ok-fill-2.ensures.failures ∙ c.in_ok-fill.ensures.failures ∙ c.packets.invariant.countable;
+      room = omega (
+        arith,
+        ap length c.skip.ensures.rest,
+        length-drop
+            (16 + n) all,
+        ap length c.held-in-packets.ensures,
+        c.in_ok-fill.ensures.limit,
+        c.in_ok-fill-2.ensures.limit,
+        c.packets.invariant.room,
+      );
+      used = used;
+      so_far = elim c.if-lengths.branch [
+        | then-lengths w ↦ rw (c.skip.ensures.rest, w.frames-is, w.skipped-is)
             (GoesOnKnown-skipped number first a next all c.packets.frames c.packets.skipped n told (omega arith)
-            (omega (arith, ap length c.held-in-packets.ensures)) (omega (arith, w.if-lengths.true, origin)) so_far);
-      }
-      | else-lengths+in_ok-push w ↦ record {
-        countable = c.in_ok-fill-2.ensures.failures ∙ c.in_ok-fill.ensures.failures ∙ c.packets.invariant.countable;
-        room = omega (
-          arith,
-          ap length c.skip.ensures.rest,
-          length-drop
-              (16 + n) all,
-          w.skipped-is,
-          ap length c.held-in-packets.ensures,
-          c.in_ok-fill.ensures.limit,
-          c.in_ok-fill-2.ensures.limit,
-          c.packets.invariant.room,
-        );
-        used = used;
-        so_far = rw (
+            (omega (arith, ap length c.held-in-packets.ensures)) (omega (arith, w.if-lengths.true, origin)) so_far)
+        | else-lengths+in_ok-push w ↦ rw (
           c.skip.ensures.rest,
           w.frames-is,
           w.in_ok-push.ensures.ok,
@@ -88,9 +76,9 @@ packets-preserved g c =
           w.skipped-is,
         )
             (GoesOnKnown-kept number first a next all c.packets.frames c.packets.skipped n told (omega arith)
-            (omega (arith, ap length c.held-in-packets.ensures)) (omega (arith, w.if-lengths.false, origin)) so_far);
-      }
-    ]
+            (omega (arith, ap length c.held-in-packets.ensures)) (omega (arith, w.if-lengths.false, origin)) so_far)
+      ];
+    }
 
 pub returns-clause-ok : goal.returns-clause-ok
 returns-clause-ok g c =
@@ -150,70 +138,22 @@ returns-clause-used g c =
 
 -- errors, which depend on no byte
 
-pub returns-in_err-fill-clause-ok : goal.returns-in_err-fill-clause-ok
-returns-in_err-fill-clause-ok g c =
-    let p = err_from_is_err_and c.from_residual.result c.from_residual.ensures.1 in
-    rw p.1 tt
-
 pub returns-in_err-fill-clause-fault : goal.returns-in_err-fill-clause-fault
 returns-in_err-fill-clause-fault g c =
     let p = err_from_is_err_and c.from_residual.result c.from_residual.ensures.1 in
     rw p.1 (silent_body g.T.ByteOrder.number_of (prepend_known c.args.block.now (g.S.Source.left c.args.source.now)) p.0 (rw p.2 refl))
-
-pub returns-in_err-fill-clause-failure : goal.returns-in_err-fill-clause-failure
-returns-in_err-fill-clause-failure g c =
-    let p = err_from_is_err_and c.from_residual.result c.from_residual.ensures.1 in
-    rw (p.1, p.2) (rw c.packets.invariant.countable at c.in_err-fill.ensures.failures)
-
-pub returns-in_err-fill-clause-end : goal.returns-in_err-fill-clause-end
-returns-in_err-fill-clause-end g c =
-    let p = err_from_is_err_and c.from_residual.result c.from_residual.ensures.1 in
-    rw p.1 tt
-
-pub returns-in_err-fill-2-clause-ok : goal.returns-in_err-fill-2-clause-ok
-returns-in_err-fill-2-clause-ok g c =
-    let p = err_from_is_err_and c.from_residual-in_err-fill-2.result c.from_residual-in_err-fill-2.ensures.1 in
-    rw p.1 tt
 
 pub returns-in_err-fill-2-clause-fault : goal.returns-in_err-fill-2-clause-fault
 returns-in_err-fill-2-clause-fault g c =
     let p = err_from_is_err_and c.from_residual-in_err-fill-2.result c.from_residual-in_err-fill-2.ensures.1 in
     rw p.1 (silent_body g.T.ByteOrder.number_of (prepend_known c.args.block.now (g.S.Source.left c.args.source.now)) p.0 (rw p.2 refl))
 
-pub returns-in_err-fill-2-clause-failure : goal.returns-in_err-fill-2-clause-failure
-returns-in_err-fill-2-clause-failure g c =
-    let p = err_from_is_err_and c.from_residual-in_err-fill-2.result c.from_residual-in_err-fill-2.ensures.1 in
-    rw (p.1, p.2) (rw (c.in_ok-fill.ensures.failures, c.packets.invariant.countable) at c.in_err-fill-2.ensures.failures)
-
-pub returns-in_err-fill-2-clause-end : goal.returns-in_err-fill-2-clause-end
-returns-in_err-fill-2-clause-end g c =
-    let p = err_from_is_err_and c.from_residual-in_err-fill-2.result c.from_residual-in_err-fill-2.ensures.1 in
-    rw p.1 tt
-
-pub returns-in_err-push-clause-ok : goal.returns-in_err-push-clause-ok
-returns-in_err-push-clause-ok g c =
-    let p = err_from_is_err_and c.from_residual-in_err-push.result c.from_residual-in_err-push.ensures.1 in
-    rw p.1 tt
-
 pub returns-in_err-push-clause-fault : goal.returns-in_err-push-clause-fault
 returns-in_err-push-clause-fault g c =
     let p = err_from_is_err_and c.from_residual-in_err-push.result c.from_residual-in_err-push.ensures.1 in
     rw p.1 (silent_body g.T.ByteOrder.number_of (prepend_known c.args.block.now (g.S.Source.left c.args.source.now)) p.0 (rw p.2 refl))
 
-pub returns-in_err-push-clause-failure : goal.returns-in_err-push-clause-failure
-returns-in_err-push-clause-failure g c =
-    let p = err_from_is_err_and c.from_residual-in_err-push.result c.from_residual-in_err-push.ensures.1 in
-    rw (p.1, p.2) (c.in_ok-fill-2.ensures.failures ∙ c.in_ok-fill.ensures.failures ∙ c.packets.invariant.countable)
-
-pub returns-in_err-push-clause-end : goal.returns-in_err-push-clause-end
-returns-in_err-push-clause-end g c =
-    let p = err_from_is_err_and c.from_residual-in_err-push.result c.from_residual-in_err-push.ensures.1 in
-    rw p.1 tt
-
 -- the other results
-
-pub returns-then-lengths-gt-MOST_CAPTURED-clause-failure : goal.returns-then-lengths-gt-MOST_CAPTURED-clause-failure
-returns-then-lengths-gt-MOST_CAPTURED-clause-failure g c = c.in_ok-fill.ensures.failures ∙ c.packets.invariant.countable
 
 pub returns-clause-failure : goal.returns-clause-failure
 returns-clause-failure g c =

@@ -2,7 +2,7 @@ use Rattle.std.proofs.Common.{◌≡◌, List, ℕ, [], None, ap, refl, subst, s
 use Rattle.std.proofs.lemmas.Result.{err_from_is_err_and}
 use Rattle.pcap_trace.specs.declared.trace.Trace.{Trace}
 use Rattle.pcap_trace.specs.Devices.{Receives}
-use Rattle.pcap_trace.specs.Format.{number_in}
+use Rattle.pcap_trace.specs.Format.{number_order}
 use Rattle.pcap_trace.specs.Reading.{header_fault, IsHeaderFault}
 use Rattle.pcap_trace.proofs.Answering.{fits_fault, fits_body, passed_long, silent_fits, told_header}
 use Rattle.pcap_trace.proofs.Uses.{uses_joined}
@@ -14,19 +14,6 @@ pub returns-in_err-fill-clause-fits : goal.returns-in_err-fill-clause-fits
 returns-in_err-fill-clause-fits g c =
     let p = err_from_is_err_and c.from_residual.result c.from_residual.ensures.1 in
     silent_fits (g.S.Source.left c.args.source.now) c.from_residual.result (rw (p.1, p.2) refl)
-
-pub returns-in_err-fill-clause-failure : goal.returns-in_err-fill-clause-failure
-returns-in_err-fill-clause-failure g c =
-    let p = err_from_is_err_and c.from_residual.result c.from_residual.ensures.1 in
-    rw (p.1, p.2) c.in_err-fill.ensures.failures
-
-pub returns-in_err-fill-clause-end : goal.returns-in_err-fill-clause-end
-returns-in_err-fill-clause-end g c =
-    let p = err_from_is_err_and c.from_residual.result c.from_residual.ensures.1 in
-    rw p.1 tt
-
-pub returns-in_err-fill-clause-used : goal.returns-in_err-fill-clause-used
-returns-in_err-fill-clause-used g c = c.fill.ensures.used
 
 -- the file header
 
@@ -48,21 +35,10 @@ returns-in_err-order-clause-failure g c =
     rw (p.1, p.2, c.in_ok-fill.ensures.failures)
     (told_header Trace c.held.result.now c.in_err-order.field-0.0 (g.S.Source.failures c.args.source.now) c.in_err-order.ensures.fault)
 
-pub returns-in_err-order-clause-end : goal.returns-in_err-order-clause-end
-returns-in_err-order-clause-end g c =
-    let p = err_from_is_err_and c.from_residual-in_err-order.result c.from_residual-in_err-order.ensures.1 in
-    rw p.1 tt
-
-pub returns-in_err-order-clause-used : goal.returns-in_err-order-clause-used
-returns-in_err-order-clause-used g c = c.in_ok-fill.ensures.used
-
 pub skip-requires : goal.skip-requires
 skip-requires g c = passed_long c.in_ok-order.order c.fill.new.self (rw c.held.ensures at c.in_ok-order.ensures.ok)
 
 -- the packets
-
-pub read_body_in-requires-clause-small : goal.read_body_in-requires-clause-small
-read_body_in-requires-clause-small g c = c.skip.ensures.room
 
 pub returns-clause-fits : goal.returns-clause-fits
 returns-clause-fits g c =
@@ -72,16 +48,10 @@ returns-clause-fits g c =
     let received : Receives [] held before left = subst (λ (old : List ℕ). Receives old held before left) c.requires.empty
     c.in_ok-fill.ensures.received in
     let order = c.in_ok-order.order in
-    let passed : header_fault (number_in order) held ≡ None =
-    ap (header_fault (number_in order)) (sym c.held.ensures) ∙ c.in_ok-order.ensures.ok in
+    let passed : header_fault (number_order order) held ≡ None =
+    ap (header_fault (number_order order)) (sym c.held.ensures) ∙ c.in_ok-order.ensures.ok in
     fits_body order before left held c.read_body_in.result received c.in_ok-fill.ensures.filled passed
     (rw c.skip.ensures.rest at c.read_body_in.ensures.ok) (rw c.skip.ensures.rest at c.read_body_in.ensures.fault)
-
-pub returns-clause-failure : goal.returns-clause-failure
-returns-clause-failure g c = rw c.in_ok-fill.ensures.failures at c.read_body_in.ensures.failure
-
-pub returns-clause-end : goal.returns-clause-end
-returns-clause-end g c = c.read_body_in.ensures.end
 
 pub returns-clause-used : goal.returns-clause-used
 returns-clause-used g c = uses_joined c.in_ok-fill.ensures.used c.read_body_in.ensures.used

@@ -1,5 +1,5 @@
 use Rattle.std.proofs.Common.{◌∙◌, ap}
-use Rattle.program_files.specs.Adapters.{texts}
+use Rattle.text.specs.Words.{texts}
 use Rattle.program_files.proofs.Answering.{asked_answer, refused_answer}
 use Rattle.program_files.proofs.schedule_adapters.is_for.Goals as goal
 

@@ -1,7 +1,7 @@
 use Rattle.std.proofs.Common.{List, ℕ, subst, sym}
 use Rattle.played_adapter.specs.Playing.{AnswersLoad}
 use Rattle.played_adapter.specs.declared.player.PlayedAdapter.{PlayedAdapter}
-use Rattle.program_plants.proofs.OnePlay.{loads_one}
+use Rattle.program_plants.proofs.OnePlay.{heard_alike, loads_one}
 use Rattle.program_plants.proofs.played_calls.load.Goals as goal
 
 pub returns : goal.returns
@@ -21,9 +21,5 @@ returns g c =
       answer = one.0;
       bytes = one.1;
       state = one.2;
-      told = (
-        first.told,
-        first.hears,
-        subst (λ told. g.O.Observer.heard c.args.another.now c.load-2.new.observer told) (sym one.3) other.hears,
-      );
+      told = heard_alike g.O.Observer.heard _ _ _ _ one.3 first.hears other.hears;
     }

@@ -1,7 +1,7 @@
 use Rattle.std.proofs.Common.{subst, sym}
 use Rattle.played_adapter.specs.Playing.{AnswersStore}
 use Rattle.played_adapter.specs.declared.player.PlayedAdapter.{PlayedAdapter}
-use Rattle.program_plants.proofs.OnePlay.{stores_one}
+use Rattle.program_plants.proofs.OnePlay.{heard_alike, stores_one}
 use Rattle.program_plants.proofs.played_calls.store.Goals as goal
 
 pub returns : goal.returns
@@ -17,9 +17,5 @@ returns g c =
     record {
       answer = one.0;
       state = one.1;
-      told = (
-        first.told,
-        first.hears,
-        subst (λ told. g.O.Observer.heard c.args.another.now c.store-2.new.observer told) (sym one.2) other.hears,
-      );
+      told = heard_alike g.O.Observer.heard _ _ _ _ one.2 first.hears other.hears;
     }

@@ -1,7 +1,7 @@
 use Rattle.std.proofs.Common.{◌∙◌, ℕ, Option, is_some, unwrap_or, ap, sym}
 use Rattle.std.proofs.lemmas.Bool.{false≢true}
 use Rattle.scenario.specs.Meanings.{saying}
-use Rattle.scenario.specs.SoFar.{Drains, hosts_of, place_of, so_far}
+use Rattle.scenario.specs.SoFar.{Drains, hosts_of, host_place, so_far}
 use Rattle.scenario.specs.Words.{texts}
 use Rattle.scenario.specs.declared.line_kind.LineKind.TheVariants as line
 use Rattle.scenario.proofs.LineFacts.{line-said-by, text-count}
@@ -13,7 +13,7 @@ returns-then-words-ne2 c = λ two. c.if-words-ne2.true (sym (text-count c.args.w
 pub returns-in_default : goal.returns-in_default
 returns-in_default c =
     let place = c.host_named.ensures
-    ∙ ap (λ name. place_of name (hosts_of c.args.scenario.now.plan.hosts.items)) c.word_at.ensures in (
+    ∙ ap (λ name. host_place name (hosts_of c.args.scenario.now.plan.hosts.items)) c.word_at.ensures in (
       text-count c.args.words.now ∙ c.if-words-ne2.false,
       tt,
       λ some. false≢true (sym (ap is_some (sym place ∙ c.in_default.is)) ∙ some),
@@ -23,7 +23,7 @@ pub returns : goal.returns
 returns c =
     let before = so_far c.args.scenario.now in
     let place = c.host_named.ensures
-    ∙ ap (λ name. place_of name (hosts_of c.args.scenario.now.plan.hosts.items)) c.word_at.ensures in
+    ∙ ap (λ name. host_place name (hosts_of c.args.scenario.now.plan.hosts.items)) c.word_at.ensures in
     line-said-by line.Drain before (so_far c.say.new.scenario) (saying (Drains c.in-Some.host) before) (texts c.args.words.now) c.say.result
     (record {
       count = text-count c.args.words.now ∙ c.if-words-ne2.false;

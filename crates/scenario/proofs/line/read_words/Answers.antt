@@ -1,5 +1,5 @@
 use Rattle.std.proofs.Common.{◌≡◌, ◌∙◌, Some, ap, sym}
-use Rattle.scenario.specs.Kinds.{kind_named}
+use Rattle.scenario.specs.Kinds.{line_kind_named}
 use Rattle.scenario.specs.SoFar.{so_far}
 use Rattle.scenario.specs.Words.{texts, word}
 use Rattle.scenario.proofs.LineAnswers.{skipped-said, words-there, words-said}
@@ -15,13 +15,13 @@ word_at-requires c = words-there c.args.words.now (sym c.is_skipped.ensures ∙ 
 pub returns-in-None : goal.returns-in-None
 returns-in-None c = (
   sym c.is_skipped.ensures ∙ c.if-is_skipped.false,
-  ap kind_named (sym c.word_at.ensures) ∙ sym c.kind_of.ensures ∙ c.in-None.is,
+  ap line_kind_named (sym c.word_at.ensures) ∙ sym c.kind_of.ensures ∙ c.in-None.is,
 )
 
 pub returns-in-Some : goal.returns-in-Some
 returns-in-Some c =
     let words = texts c.args.words.now in
-    let named : kind_named (word 0 words) ≡ Some c.in-Some.kind =
-    ap kind_named (sym c.word_at.ensures) ∙ sym c.kind_of.ensures ∙ c.in-Some.is in
+    let named : line_kind_named (word 0 words) ≡ Some c.in-Some.kind =
+    ap line_kind_named (sym c.word_at.ensures) ∙ sym c.kind_of.ensures ∙ c.in-Some.is in
     words-said (so_far c.args.scenario.now) (so_far c.read_kind.new.scenario) words c.in-Some.kind
     (sym c.is_skipped.ensures ∙ c.if-is_skipped.false) named c.read_kind.result c.read_kind.ensures

@@ -1,14 +1,10 @@
-use Rattle.std.proofs.Common.{◌≡◌, ◌∙◌, ◌++◌, ℕ, List, [], ◌∷◌, ap, arith, subst, sym}
-use Rattle.std.proofs.lemmas.Result.{err_from_is_err_and}
-use Rattle.scenario.specs.Answers.{IsFaulty}
+use Rattle.std.proofs.Common.{◌≡◌, ◌∙◌, ◌++◌, ℕ, List, [], ◌∷◌, ap, arith}
 use Rattle.scenario.specs.Meanings.{host_described, host_of_words, with_hosts}
 use Rattle.scenario.specs.SoFar.{Host, hosts_of, so_far}
 use Rattle.scenario.specs.Spellings.{address_in}
-use Rattle.scenario.specs.Stops.{IfFault}
 use Rattle.scenario.specs.Words.{Text, texts, word}
 use Rattle.scenario.specs.declared.line_kind.LineKind.TheVariants as line
-use Rattle.scenario.specs.declared.refusal.Stop.{Stop}
-use Rattle.scenario.proofs.LineFacts.{text-count}
+use Rattle.scenario.proofs.LineFacts.{answer-stopped, text-count}
 use Rattle.scenario.proofs.setup_line.read_host.Goals as goal
 
 pub word_at-name-requires : goal.word_at-name-requires
@@ -32,12 +28,9 @@ returns c =
     )
 
 pub returns-in_err-address : goal.returns-in_err-address
-returns-in_err-address c =
-    let p = err_from_is_err_and c.from_residual.result c.from_residual.ensures.1 in
-    rw p.1 (subst (λ (stop : Stop). IfFault stop (IsFaulty line.Host (so_far c.args.scenario.now) (texts c.args.words.now))) (sym p.2)
-    c.in_err-address.ensures.err)
+returns-in_err-address c = answer-stopped line.Host (so_far c.args.scenario.now) _ (texts c.args.words.now) c.from_residual.result _
+    c.from_residual.ensures.1 c.in_err-address.ensures.err
 
 pub returns-in_err-add_host : goal.returns-in_err-add_host
-returns-in_err-add_host c =
-    let p = err_from_is_err_and c.from_residual-in_err-add_host.result c.from_residual-in_err-add_host.ensures.1 in
-    rw p.1 (subst (λ (stop : Stop). IfFault stop (IsFaulty line.Host (so_far c.args.scenario.now) (texts c.args.words.now))) (sym p.2) tt)
+returns-in_err-add_host c = answer-stopped line.Host (so_far c.args.scenario.now) _ (texts c.args.words.now)
+    c.from_residual-in_err-add_host.result _ c.from_residual-in_err-add_host.ensures.1 tt

@@ -1,31 +1,23 @@
 use Rattle.std.proofs.Common.{◌≡◌, List, ℕ, sym, ap, subst, ◌∙◌}
 use Rattle.adapter.specs.declared.outcome.Outcome.TheVariants.{Moved, Done}
-use Rattle.adapter.specs.Receiving.{after_data, after_done, memory_after_data_step, memory_after_done_step, is_last_piece, CanMovePiece}
+use Rattle.adapter.specs.Receiving.{after_data, after_done, memory_after_data_step, memory_after_done_step}
 use Rattle.adapter.specs.State.{AdapterState}
 use Rattle.pcap_bench.specs.Lane.{LaneState}
 use Rattle.pcap_bench.proofs.Lanes.{has_room}
-use Rattle.pcap_bench.proofs.Steps.{after_steps, can_move, is_stored, last_piece, memory_is, received, Received}
+use Rattle.pcap_bench.proofs.Steps.{after_steps, finishes, is_stored, memory_is, received, Received}
 use Rattle.pcap_bench.proofs.lane.ReceiveLane.arrive.Goals as goal
 
 pub finish_frame-requires-clause-place : goal.finish_frame-requires-clause-place
-finish_frame-requires-clause-place c =
-    let lane : LaneState = record { adapter = c.self.inside.adapter; memory = c.self.inside.memory; slot = c.self.inside.slot } in
-    let frame = c.args.frame.now in
-    let is = c.self.invariant in
-    let waiting = rw (← c.self.view_is) at c.requires.waiting in
-    let stored = is_stored lane frame c.arrive.result c.arrive.new.self is waiting c.arrive.ensures.state c.in-Stored.is in
-    let room = has_room lane.memory frame lane.slot is.slot is.size is.buffers c.requires.legal in
-    subst (CanMovePiece lane.memory) (sym stored)
-    (can_move lane.adapter lane.memory frame lane.slot is.receiving is.slot is.size c.requires.legal room)
+finish_frame-requires-clause-place c = (finishes
+    (record { adapter = c.self.inside.adapter; memory = c.self.inside.memory; slot = c.self.inside.slot }) c.args.frame.now
+    c.arrive.result c.arrive.new.self c.self.invariant (rw (← c.self.view_is) at c.requires.waiting) c.arrive.ensures.state
+    c.in-Stored.is c.requires.legal).0
 
 pub finish_frame-requires-clause-last : goal.finish_frame-requires-clause-last
-finish_frame-requires-clause-last c =
-    let lane : LaneState = record { adapter = c.self.inside.adapter; memory = c.self.inside.memory; slot = c.self.inside.slot } in
-    let frame = c.args.frame.now in
-    let is = c.self.invariant in
-    let waiting = rw (← c.self.view_is) at c.requires.waiting in
-    let stored = is_stored lane frame c.arrive.result c.arrive.new.self is waiting c.arrive.ensures.state c.in-Stored.is in
-    ap is_last_piece stored ∙ last_piece lane.adapter frame lane.slot is.receiving c.requires.legal
+finish_frame-requires-clause-last c = (finishes
+    (record { adapter = c.self.inside.adapter; memory = c.self.inside.memory; slot = c.self.inside.slot }) c.args.frame.now
+    c.arrive.result c.arrive.new.self c.self.invariant (rw (← c.self.view_is) at c.requires.waiting) c.arrive.ensures.state
+    c.in-Stored.is c.requires.legal).1
 
 all : (c : goal.After-finish_frame)
     → Received (record { adapter = c.finish_frame.new.adapter; memory = c.finish_frame.new.memory; slot = c.self.inside.slot })

@@ -4,13 +4,13 @@ use Rattle.descriptors.specs.RxStatus.{status_bits}
 use Rattle.rx_engine.specs.Descriptors.{descriptor_at}
 use Rattle.adapter.specs.Registers.{after_write}
 use Rattle.adapter.specs.State.{AdapterState}
-use Rattle.pcap_bench.specs.Lane.{buffer_at, IsLane, LaneState}
+use Rattle.pcap_bench.specs.Lane.{lane_buffer, IsLane, LaneState}
 use Rattle.pcap_bench.proofs.Lanes.{descriptor_at-offered}
 use Rattle.pcap_bench.proofs.Steps.{IsLane-offered, with_tail}
 use Rattle.pcap_bench.proofs.Writes.{wrote-tail}
 use Rattle.pcap_bench.proofs.lane.ReceiveLane.offer.Goals as goal
 
-buffer_is : (c : goal.After-self-1) → c.descriptor-buffer.result.address ≡ buffer_at c.self.inside.slot
+buffer_is : (c : goal.After-self-1) → c.descriptor-buffer.result.address ≡ lane_buffer c.self.inside.slot
 buffer_is c =
     let desc = rw (← c.self.view_is) at c.descriptor-buffer.ensures in
     ap (λ (d : RxDesc). d.address) desc ∙ c.self.invariant.buffers c.self.inside.slot c.self.invariant.slot

@@ -1,4 +1,4 @@
-use Rattle.std.proofs.Common.{◌∙◌, inl, inr, ap, arith, length, refl}
+use Rattle.std.proofs.Common.{◌∙◌, arith, refl}
 use Rattle.pcap_trace.proofs.Uses.{received_none, receives_joined, uses_joined, uses_received}
 use Rattle.pcap_trace.proofs.block.Block.fill_slowly.Goals as goal
 
@@ -23,20 +23,10 @@ returns-in_err-read_more-clause-used g c =
     uses_joined (uses_received c.args.self.now c.loop-self.self (g.S.Source.left c.args.source.now) (g.S.Source.left c.loop-self.source)
     c.loop-self.invariant.received) c.in_err-read_more.ensures.used
 
-pub returns-after-loop-self-clause-received : goal.returns-after-loop-self-clause-received
-returns-after-loop-self-clause-received g c = c.loop-self.invariant.received
-
 pub returns-after-loop-self-clause-used : goal.returns-after-loop-self-clause-used
 returns-after-loop-self-clause-used g c =
     uses_received c.args.self.now c.loop-self.self (g.S.Source.left c.args.source.now) (g.S.Source.left c.loop-self.source)
     c.loop-self.invariant.received
-
-pub returns-after-loop-self-clause-limit : goal.returns-after-loop-self-clause-limit
-returns-after-loop-self-clause-limit g c = c.loop-self.invariant.limit
-
-pub returns-after-loop-self-clause-filled : goal.returns-after-loop-self-clause-filled
-returns-after-loop-self-clause-filled g c =
-    inl (omega (arith, ap length c.held.ensures))
 
 pub returns-then-branch-eq0-clause-received : goal.returns-then-branch-eq0-clause-received
 returns-then-branch-eq0-clause-received g c =
@@ -48,10 +38,3 @@ pub returns-then-branch-eq0-clause-used : goal.returns-then-branch-eq0-clause-us
 returns-then-branch-eq0-clause-used g c =
     uses_received c.args.self.now c.read_more.new.self (g.S.Source.left c.args.source.now) (g.S.Source.left c.read_more.new.source)
     (returns-then-branch-eq0-clause-received g c)
-
-pub returns-then-branch-eq0-clause-filled : goal.returns-then-branch-eq0-clause-filled
-returns-then-branch-eq0-clause-filled g c = inr (c.in_ok-read_more.ensures.at_end c.if-branch-eq0.true)
-
-pub returns-then-branch-eq0-clause-limit : goal.returns-then-branch-eq0-clause-limit
-returns-then-branch-eq0-clause-limit g c =
-    omega (arith, c.in_ok-read_more.ensures.more, c.in_ok-read_more.ensures.limit, c.loop-self.invariant.limit)

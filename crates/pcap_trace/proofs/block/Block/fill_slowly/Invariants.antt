@@ -6,8 +6,8 @@ abbrev pub invariant-loop-self : goal.invariant-loop-self
 invariant-loop-self g l = record {
   countable : g.S.Source.failures l.source ≡ g.S.Source.failures l.initial.source;
   received : Receives l.initial.self l.self (g.S.Source.left l.initial.source) (g.S.Source.left l.source);
-  limit : length l.self + g.S.Source.most l.source ≤ length l.initial.self + g.S.Source.most l.initial.source;
+  limit : length l.self + g.S.Source.limit l.source ≤ length l.initial.self + g.S.Source.limit l.initial.source;
 }
 
 abbrev pub decreases-loop-self : goal.decreases-loop-self
-decreases-loop-self g l = g.S.Source.most l.source
+decreases-loop-self g l = g.S.Source.limit l.source

@@ -1,7 +1,6 @@
 use Rattle.std.proofs.Common.{◌≡◌, ◌+◌, ◌-◌, ◌∙◌, take, ap, arith, length}
 use Rattle.std.specs.Vec.{with_items}
 use Rattle.std.proofs.lemmas.List.{with_items_is}
-use Rattle.std.proofs.lemmas.Result.{err_from_is_err_and}
 use Rattle.pcap_trace.proofs.Blocks.{length_more, read_more, still_whole}
 use Rattle.pcap_trace.proofs.block.Block.read_more.Goals as goal
 
@@ -18,15 +17,6 @@ returns-clause-received g c =
     (with_items moved new).items c.self.inside.start c.self.inside.end c.in_ok-count.count (g.S.Source.left c.args.source.now)
     (g.S.Source.left c.read_behind.new.source) (omega arith)
     (omega arith) c.copy_within.ensures.items front c.in_ok-count.ensures.read (with_items_is moved new length_is))
-
-pub returns-in_err-count-clause-used : goal.returns-in_err-count-clause-used
-returns-in_err-count-clause-used g c = c.read_behind.ensures.used
-
-pub returns-clause-used : goal.returns-clause-used
-returns-clause-used g c = c.read_behind.ensures.used
-
-pub returns-clause-limit : goal.returns-clause-limit
-returns-clause-limit g c = c.in_ok-count.ensures.limit
 
 pub invariant_of-self : goal.invariant_of-self
 invariant_of-self g c =
@@ -56,8 +46,3 @@ returns-clause-more g c =
     (length_more c.self.inside.bytes.items (with_items moved new).items c.self.inside.start c.self.inside.end c.in_ok-count.count
     (omega arith) (omega arith)
     (omega (arith, c.in_ok-count.ensures.fits, c.read_behind.auto.bytes, ap length (with_items_is moved new same))))
-
-pub returns-in_err-count-clause-failures : goal.returns-in_err-count-clause-failures
-returns-in_err-count-clause-failures g c =
-    let p = err_from_is_err_and c.from_residual.result c.from_residual.ensures.1 in
-    rw p.1 c.in_err-count.ensures.failures

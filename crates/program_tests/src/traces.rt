@@ -1,13 +1,15 @@
-//! Traces over the system's readers and writers.
+//! Traces over the system's readers and writers, without memory, and with the greatest counts.
 ghost use Rattle.std.specs.Prelude.{◌≡◌, ◌<◌};
 
 use descriptors::Frame;
+use pcap_bench::{Frames, PassCounts, print_pass, show};
 use pcap_trace::{
     DeviceError, ReadError, ReaderSource, RecordWriter, Sink, Source, Trace, Unit, VecSink,
     WriteError, WriterSink, written_is_trace,
 };
-use std::alloc::Global;
+use std::alloc::{AllocError, Global};
 use std::io;
+use std::process::Abort;
 use std::test::Fail;
 
 /// Writes a trace of two frames of 60 bytes, with times in microseconds. The trace has 176 bytes.
@@ -113,5 +115,83 @@ fn nanoseconds(rt: HostRuntime) -> Result<(), Fail> {
     ];
     let packet = [1, 0, 0, 0, 0xE8, 3, 0, 0, 0, 0, 0, 0, 0, 0, 0, 0];
     assert!(rt; sink.bytes().starts_with(&header) && sink.bytes().ends_with(&packet));
+    Ok(())
+}
+
+/// Returns a list with one frame of 60 bytes, at time 7 in microseconds.
+fn one_packet(alloc: Global) -> Result<Vec<(u64, Frame)>, AllocError> {
+    let mut packets = Vec::new(alloc);
+    packets.push((7, Frame::from_slice(&[0xA5; 60])))?;
+    Ok(packets)
+}
+
+/// Returns a trace with one frame of 60 bytes.
+fn one_frame(alloc: Global) -> Result<Trace, AllocError> {
+    let mut frames = Frames::new(alloc);
+    frames.push(&[0xA5; 60])?;
+    Ok(Trace {
+        frames,
+        skipped: 0,
+        cut: false,
+    })
+}
+
+/// Writes the frame as a trace, to a slice.
+fn writes(rt: &impl Abort, packets: &[(u64, Frame)]) {
+    let mut room = [0; 100];
+    let mut sink = WriterSink::new(&mut room[..]);
+    let is_written = Trace::write(&mut sink, Unit::Micros, packets).is_ok();
+    assert!(rt; is_written && room.ends_with(&[0xA5; 60]));
+}
+
+/// Prints the trace, to a slice.
+fn shows(rt: &impl Abort, trace: &Trace) {
+    let mut room = [0; 200];
+    let mut sink = WriterSink::new(&mut room[..]);
+    let is_shown = show(trace, &mut sink).is_ok();
+    assert!(rt; is_shown && room.starts_with(b"0 60 a5:a5:a5:a5:a5:a5"));
+}
+
+/// Calls that write allocate nothing: they succeed even if every allocation fails after their arguments were made.
+#[test]
+fn calls_that_write_take_no_memory(rt: HostRuntime) {
+    let (Ok(packets), Ok(trace)) = (one_packet(rt.alloc()), one_frame(rt.alloc())) else {
+        return;
+    };
+    writes(&rt, &packets);
+    shows(&rt, &trace);
+}
+
+/// Returns a trace with no frame: the greatest number of truncated packets, and then a packet that is cut off.
+fn cut_trace(alloc: Global) -> Trace {
+    Trace {
+        frames: Frames::new(alloc),
+        skipped: 18_446_744_073_709_551_615,
+        cut: true,
+    }
+}
+
+#[test]
+fn a_skipped_and_a_cut_packet_are_told(rt: HostRuntime) -> Result<(), Fail> {
+    let counts = PassCounts {
+        read: 1,
+        illegal: 20,
+        filtered: 300,
+        written: 4_000,
+    };
+    let mut line = VecSink::new(rt.alloc());
+    print_pass(&cut_trace(rt.alloc()), &counts, &mut line)?;
+    let want =
+        b"read 1 skipped 18446744073709551615 illegal 20 filtered 300 written 4000 cut yes\n";
+    assert!(rt; line.bytes() == want.as_slice());
+    Ok(())
+}
+
+#[test]
+fn skipped_and_cut_packets_are_shown(rt: HostRuntime) -> Result<(), Fail> {
+    let mut text = VecSink::new(rt.alloc());
+    show(&cut_trace(rt.alloc()), &mut text)?;
+    let want = b"frames 0 skipped 18446744073709551615 cut yes\n";
+    assert!(rt; text.bytes() == want.as_slice());
     Ok(())
 }
