@@ -23,17 +23,8 @@ SEARCH_KEYS = {"complete", "tried", "smallest", "holds", "first", "schedules", "
 # The line in which the handler of my_test.c reads ICR, and the end of this handler
 READS_ICR, LOOPS = ("    x_read(NIC_ICR); /* first: a frame that is finished later raises the line again */\n",
                     "    }\n}\n\nstatic void send(")
-# A counter in a static variable that no run sets back, and a fault of two lines that needs escapes in JSON
-COUNTER = r"""
-#include <nic82540em_explore.h>
-static unsigned received;
-static const char *test(void *word)
-{
-    static const uint8_t frame[60] = { 255, 255, 255, 255, 255, 255 };
-    uint64_t descriptor[2] = { 0x800, 0 };
-    uint8_t status;
-    unsigned next = 0, own = 0;
-    x_write(NIC_RDLEN, 128);
+# C: offers a ring of 8 slots. Six times, a frame arrives or the adapter settles. Loads the status of the next slot.
+RECEIVES = """    x_write(NIC_RDLEN, 128);
     for (unsigned n = 0; n < 8; n++)
         x_store(16 * n, descriptor, 16);
     x_write(NIC_RDT, 7);
@@ -44,7 +35,18 @@ static const char *test(void *word)
         else
             x_settle();
         x_load(16 * next + 12, &status, 1);
-        next += status & 1, own += status & (n % 2 == 0), received += status & 1;
+"""
+# A counter in a static variable that no run sets back, and a fault of two lines that needs escapes in JSON
+COUNTER = r"""
+#include <nic82540em_explore.h>
+static unsigned received;
+static const char *test(void *word)
+{
+    static const uint8_t frame[60] = { 255, 255, 255, 255, 255, 255 };
+    uint64_t descriptor[2] = { 0x800, 0 };
+    uint8_t status;
+    unsigned next = 0, own = 0;
+""" + RECEIVES + r"""        next += status & 1, own += status & (n % 2 == 0), received += status & 1;
     }
     if (word)
         return own ? "a \"frame\" \\ was\nearly: \xff \xc3\xa4" : 0;

@@ -10,10 +10,10 @@ import random
 import subprocess
 
 from pcap_files import FILE_HEADER, written
+from random_requests import Words
 from races import B_ADDRESS, EVERYONE, FINISH, INTERRUPT, MOST_BUFFERED, bring, frame, receive, send
 from reset import line_of, reset
 from reset_model import BEFORE_STORES, OTHER_ACCESSES, Host, Wire
-from scenario_auto import Drawing
 from scenarios import folder, held, told, warning
 
 SLOTS, BUFFERS = 4096, 8192
@@ -174,7 +174,7 @@ class Soak:
     def auto(self, count, start):
         """Adds a line `auto`, and plays its random events in the model."""
         self.lines.append(f"auto {count} {start}")
-        next_word, wire = Drawing(start).next, self.wire
+        next_word, wire = Words(start).next, self.wire
         hosts = [(name, host, [other for other in wire.hosts.values() if other is not host],
                   bytes.fromhex(EVERYONE + ADDRESSES[name] + "88b5"))
                  for name, host in wire.hosts.items()]

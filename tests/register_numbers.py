@@ -126,28 +126,27 @@ def bit_places():
     """Yields the name of each bit in contracts, the bit's place there, and the place of the lowest bit of the code's
     constant.
     """
-    registers = {"ctrl": "device_control", "status": "device_control", "rctl": "receive_control",
-                 "tctl": "transmit_control", "": "interrupts"}
+    registers = {"ctrl": "Ctrl", "status": "Status", "rctl": "Rctl", "tctl": "Tctl", "": "Cause"}
     others = {
         "rah_av": ("rx_engine", "address", "ADDRESS_VALID"),
-        "control_reset": ("eeprom_phy", "bits", "RESET"),
-        "control_enable": ("eeprom_phy", "bits", "ENABLE"),
-        "control_restart": ("eeprom_phy", "bits", "RESTART"),
-        "status_complete": ("eeprom_phy", "bits", "NEGOTIATED"),
-        "status_link": ("eeprom_phy", "bits", "LINK"),
+        "control_reset": ("eeprom_phy", "phy", "RESET"),
+        "control_enable": ("eeprom_phy", "phy", "ENABLE"),
+        "control_restart": ("eeprom_phy", "phy", "RESTART"),
+        "status_complete": ("eeprom_phy", "phy", "NEGOTIATED"),
+        "status_link": ("eeprom_phy", "phy", "LINK"),
         "mdic_r": ("eeprom_phy", "mdic", "READY"),
         "mdic_i": ("eeprom_phy", "mdic", "INTERRUPT"),
         "mdic_e": ("eeprom_phy", "mdic", "ERROR"),
         "mdic_regadd": ("bring_up", "link", "STATUS_REGISTER"),
         "mdic_phyadd": ("bring_up", "link", "PHY_ADDRESS"),
         "mdic_op": ("bring_up", "link", "OP_WRITE"),
-        "dd": ("descriptors", "rx_status", "DD"),
-        "eop": ("descriptors", "rx_status", "EOP"),
-        "tx_eop": ("descriptors", "tx_command", "EOP"),
-        "tx_ifcs": ("descriptors", "tx_command", "IFCS"),
-        "tx_rs": ("descriptors", "tx_command", "RS"),
-        "tx_dext": ("descriptors", "tx_command", "DEXT"),
-        "tx_dd": ("descriptors", "tx_status", "DD"),
+        "dd": ("descriptors", "flags", "RxStatus::DD"),
+        "eop": ("descriptors", "flags", "RxStatus::EOP"),
+        "tx_eop": ("descriptors", "flags", "TxCommand::EOP"),
+        "tx_ifcs": ("descriptors", "flags", "TxCommand::IFCS"),
+        "tx_rs": ("descriptors", "flags", "TxCommand::RS"),
+        "tx_dext": ("descriptors", "flags", "TxCommand::DEXT"),
+        "tx_dd": ("descriptors", "flags", "TxStatus::DD"),
     }
     files = [("registers", "Places"), ("eeprom_phy", "Places"), ("descriptors", "RxStatus"),
              ("descriptors", "TxFields")]
@@ -156,9 +155,11 @@ def bit_places():
             if name == "mdic_reserved":
                 continue
             register, bit = name.split("_") if "_" in name else ("", name)
-            where, source, constant = others.get(name) or ("registers", registers[register], bit.upper())
+            where, source, constant = others.get(name) or ("registers", "bits", f"{registers[register]}::{bit.upper()}")
             code = text_of(os.pardir, where, "src", source + ".rt")
-            shift = re.search(rf"^ *const {constant}(?:: u32)? = (?:1|3|0b01|{HEX}) << (\d+);$", code, re.M)
+            flags, _, constant = constant.rpartition("::")
+            code = code[code.index(f"impl {flags}: "):] if flags else code
+            shift = re.search(rf"^ *const {constant}(?:: u(?:16|32))? = (?:1|3|0b01|{HEX}) << (\d+);$", code, re.M)
             yield name, number(place), number(shift.group(1))
 
 
@@ -168,7 +169,7 @@ def kept_of_mdic():
     specification = text_of(os.pardir, "eeprom_phy", "specs", "Mdic.antt")
     code = text_of(os.pardir, "eeprom_phy", "src", "mdic.rt")
     places = dict(re.findall(r"^(\w+) = (\d+)$", text_of(os.pardir, "eeprom_phy", "specs", "Places.antt"), re.M))
-    rule = re.search(r"^kept value = difference value (.*)$", specification, re.M).group(1)
+    rule = re.search(r"^kept_bits value = difference value (.*)$", specification, re.M).group(1)
     cleared = sum(1 << number(places[name]) for name in re.findall(r"alone (\w+)", rule))
     return 0xFFFFFFFF - cleared, number(re.search(r"^const KEPT: u32 = (0x[0-9A-F_]+);$", code, re.M).group(1))
 

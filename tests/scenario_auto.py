@@ -5,40 +5,14 @@ events.
 import re
 
 from pcap_files import FILE_HEADER, written
+from random_requests import Words
 from scenarios import EXAMPLE, EXAMPLE_FRAME, EXAMPLE_LINES, TO_SOCKET, folder, held, plays, told, warning
-
-
-class Drawing:
-    """The words of `auto`: PCG XSH RR 64/32 (O'Neill, 2014), seeded from a number as in the crate rand_core."""
-
-    MASK = 2**64 - 1
-    MULTIPLIER = 6364136223846793005
-
-    def __init__(self, start):
-        words = []
-        for _ in range(4):
-            start = (start * self.MULTIPLIER + 11634580027462260723) & self.MASK
-            words.append(self.output(start))
-        self.step = (words[3] << 32 | words[2]) | 1
-        self.state = (words[1] << 32 | words[0]) + self.step & self.MASK
-        self.next()
-
-    @staticmethod
-    def output(state):
-        word = ((state >> 18) ^ state) >> 27 & 0xFFFFFFFF
-        turn = state >> 59
-        return (word >> turn | word << (32 - turn)) & 0xFFFFFFFF
-
-    def next(self):
-        old = self.state
-        self.state = (old * self.MULTIPLIER + self.step) & self.MASK
-        return self.output(old)
 
 
 def words_from(start, count):
     """The first words for a seed."""
-    drawing = Drawing(start)
-    return [drawing.next() for _ in range(count)]
+    words = Words(start)
+    return [words.next() for _ in range(count)]
 
 
 def event_of(word, hosts):

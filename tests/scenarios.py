@@ -5,20 +5,12 @@ import re
 import subprocess
 
 from codes import failure
+from helps import RUN_HELP
 from pcap_files import FILE_HEADER, packet, trace, trace_in, written
 
-EXAMPLE = b"""host a 02:00:00:00:00:01 w
-host b 02:00:00:00:00:02 w
-socket b all
-send a 0200000000020200000000010800
-tick txtake:a
-tick txput:a
-tick deliver:b
-tick rxdata:b
-tick rxdone:b
-interrupt b
-recv b 0
-"""
+# The example of the help of `run`, without its comment
+EXAMPLE = b"".join(line[2:] + b"\n" for line in re.search(rb"^  host a .*?\n\n", RUN_HELP, re.M | re.S)[0].splitlines()
+                   if line and not line.startswith(b"  #"))
 EXAMPLE_FRAME = bytes.fromhex("0200000000020200000000010800")
 # A frame of 1,518 bytes. A receive packet buffer of 2 KB has room for one.
 LONG_FRAME = EXAMPLE_FRAME.ljust(1518, b"\1")

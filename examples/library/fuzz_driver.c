@@ -154,36 +154,10 @@ int LLVMFuzzerTestOneInput(const uint8_t *data, size_t size)
 }
 
 #ifdef ALONE
-static void run_file(const char *path)
-{
-    static uint8_t data[1 << 16];
-    FILE *file = fopen(path, "rb");
-
-    if (!file) {
-        perror(path);
-        exit(1);
-    }
-    LLVMFuzzerTestOneInput(data, fread(data, 1, sizeof data, file));
-    fclose(file);
-}
+#include "alone.h"
 
 int main(int argc, char **argv)
 {
-    uint8_t data[20];
-    uint32_t word = 1;
-
-    for (int number = 1; number < argc; number++)
-        run_file(argv[number]);
-    for (int number = 0; argc == 1 && number < 2000; number++) {
-        for (size_t place = 0; place < sizeof data; place++) {
-            word ^= word << 13; /* xorshift32 */
-            word ^= word >> 17;
-            word ^= word << 5;
-            data[place] = word >> 24;
-        }
-        LLVMFuzzerTestOneInput(data, sizeof data);
-    }
-    puts("no fault");
-    return 0;
+    return run_alone(argc, argv, 20);
 }
 #endif

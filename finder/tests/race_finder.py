@@ -26,15 +26,17 @@ ASK = """ask() {
     done
 }
 """
-# A frame arrives. Then RDH is read twice, and the status of the frame's slot twice. With `fails`, the test fails if the
-# frame is moved before the second read of RDH, and finished between the reads of the status.
-SMALL = ASK + f"""
+# One slot of the receive ring is offered, and a frame arrives.
+ARRIVES = ASK + f"""
 ask "writel 0xFEB02808 128"
 ask "writeq 0 0x800"
 ask "writel 0xFEB02818 1"
 ask "writel 0xFEB00100 0x8002"
 ask "arrive {FRAME}"
-ask "readl 0xFEB02810"
+"""
+# A frame arrives. Then RDH is read twice, and the status of the frame's slot twice. With `fails`, the test fails if the
+# frame is moved before the second read of RDH, and finished between the reads of the status.
+SMALL = ARRIVES + """ask "readl 0xFEB02810"
 ask "readl 0xFEB02810"; head=$answer
 ask "readb 12"; early=$answer
 ask "readb 12"; late=$answer

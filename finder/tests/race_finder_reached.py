@@ -5,7 +5,7 @@ before which requests deviations were played.
 import re
 import subprocess
 
-from race_finder import ASK, EXCHANGE, FOUND, FRAME, PASSES, find, replay
+from race_finder import ARRIVES, EXCHANGE, FOUND, FRAME, PASSES, find, replay
 from race_finder_output import script
 from race_finder_runs import BEGIN, STAGED
 from server import LIMIT, lines
@@ -92,13 +92,7 @@ def played(server):
     """The finder lists the accesses and requests before which deviations were played, and those before which none ever
     was. It warns of a test that sends `pace`, which hides races.
     """
-    server.put("test", (ASK + f"""
-ask "writel 0xFEB02808 128"
-ask "writeq 0 0x800"
-ask "writel 0xFEB02818 1"
-ask "writel 0xFEB00100 0x8002"
-ask "arrive {FRAME}"
-ask "readl 0xFEB02810"
+    server.put("test", (ARRIVES + """ask "readl 0xFEB02810"
 ask "readb 12"
 ask "pace $1"
 ask "readb 0x4000"
