@@ -129,14 +129,14 @@ def bit_places():
     registers = {"ctrl": "Ctrl", "status": "Status", "rctl": "Rctl", "tctl": "Tctl", "": "Cause"}
     others = {
         "rah_av": ("rx_engine", "address", "ADDRESS_VALID"),
-        "control_reset": ("eeprom_phy", "phy", "RESET"),
-        "control_enable": ("eeprom_phy", "phy", "ENABLE"),
-        "control_restart": ("eeprom_phy", "phy", "RESTART"),
-        "status_complete": ("eeprom_phy", "phy", "NEGOTIATED"),
-        "status_link": ("eeprom_phy", "phy", "LINK"),
-        "mdic_r": ("eeprom_phy", "mdic", "READY"),
-        "mdic_i": ("eeprom_phy", "mdic", "INTERRUPT"),
-        "mdic_e": ("eeprom_phy", "mdic", "ERROR"),
+        "control_reset": ("registers", "phy", "RESET"),
+        "control_enable": ("registers", "phy", "ENABLE"),
+        "control_restart": ("registers", "phy", "RESTART"),
+        "status_complete": ("registers", "phy", "NEGOTIATED"),
+        "status_link": ("registers", "phy", "LINK"),
+        "mdic_r": ("registers", "mdic", "READY"),
+        "mdic_i": ("registers", "mdic", "INTERRUPT"),
+        "mdic_e": ("registers", "mdic", "ERROR"),
         "mdic_regadd": ("bring_up", "link", "STATUS_REGISTER"),
         "mdic_phyadd": ("bring_up", "link", "PHY_ADDRESS"),
         "mdic_op": ("bring_up", "link", "OP_WRITE"),
@@ -148,7 +148,7 @@ def bit_places():
         "tx_dext": ("descriptors", "flags", "TxCommand::DEXT"),
         "tx_dd": ("descriptors", "flags", "TxStatus::DD"),
     }
-    files = [("registers", "Places"), ("eeprom_phy", "Places"), ("descriptors", "RxStatus"),
+    files = [("registers", "Places"), ("registers", "PhyPlaces"), ("descriptors", "RxStatus"),
              ("descriptors", "TxFields")]
     for crate, file in files:
         for name, place in re.findall(r"^(\w+) = (\d+)$", text_of(os.pardir, crate, "specs", file + ".antt"), re.M):
@@ -166,9 +166,9 @@ def bit_places():
 def kept_of_mdic():
     """The bits of MDIC that a write keeps: by the specification, all except those that it names; and by the constant.
     """
-    specification = text_of(os.pardir, "eeprom_phy", "specs", "Mdic.antt")
-    code = text_of(os.pardir, "eeprom_phy", "src", "mdic.rt")
-    places = dict(re.findall(r"^(\w+) = (\d+)$", text_of(os.pardir, "eeprom_phy", "specs", "Places.antt"), re.M))
+    specification = text_of(os.pardir, "registers", "specs", "Mdic.antt")
+    code = text_of(os.pardir, "registers", "src", "mdic.rt")
+    places = dict(re.findall(r"^(\w+) = (\d+)$", text_of(os.pardir, "registers", "specs", "PhyPlaces.antt"), re.M))
     rule = re.search(r"^kept_bits value = difference value (.*)$", specification, re.M).group(1)
     cleared = sum(1 << number(places[name]) for name in re.findall(r"alone (\w+)", rule))
     return 0xFFFFFFFF - cleared, number(re.search(r"^const KEPT: u32 = (0x[0-9A-F_]+);$", code, re.M).group(1))

@@ -3,9 +3,9 @@ use Rattle.std.proofs.Common.{◌≡◌, ◌≢◌, ◌↔◌, ◌+◌, ◌++◌
 use Rattle.std.proofs.Common.{Option, Some, None, IfSome, refl, sym, ap, subst, drop, ◌∙◌, if◌then◌else◌}
 use Rattle.descriptors.specs.declared.ring.Ring.{Ring}
 use Rattle.descriptors.specs.Ring.{address_of, next_of}
-use Rattle.eeprom_phy.specs.declared.mdic.Ticked.{Ticked}
-use Rattle.eeprom_phy.specs.Mdic as mdi
-use Rattle.eeprom_phy.specs.Phy.{PhyState}
+use Rattle.registers.specs.declared.mdic.Ticked.{Ticked}
+use Rattle.registers.specs.Mdic as mdi
+use Rattle.registers.specs.Phy.{PhyState}
 use Rattle.registers.specs.Bits.{HasBit, union}
 use Rattle.registers.specs.Interrupts.{Interrupts}
 use Rattle.registers.specs.Kept.{all_causes, causes_of}

@@ -1,8 +1,8 @@
 -- The effect of accesses and resets on what registers read, by the table: the laws that `offsets_by_table`, `accesses_by_table` and
 -- `resets_by_table` state.
 use Rattle.std.specs.Prelude.{◌≡◌, ◌≢◌, ◌%◌, ◌<◌, ◌&&◌, ℕ, true, false, List, Some, bit_and, if◌then◌else◌}
-use Rattle.eeprom_phy.specs.declared.phy.Link.{Link}
-use Rattle.eeprom_phy.specs.Phy.{link_is_up}
+use Rattle.registers.specs.declared.phy.Link.{Link}
+use Rattle.registers.specs.Phy.{link_is_up}
 use Rattle.registers.specs.Bits.{is_set, union, difference}
 use Rattle.registers.specs.Kept.{causes_of, status_of_link_up}
 use Rattle.adapter.specs.declared.register.Register.{Register}

@@ -2,9 +2,9 @@
 use Rattle.std.proofs.Common.{◌≡◌, ◌%◌, ◌==◌, ◌≤◌, ℕ, Bool, true, false, List, [], ◌∷◌, length, Option, Some, None, refl, ◌∙◌}
 use Rattle.std.proofs.Common.{if◌then◌else◌, arith, length-set}
 use Rattle.std.proofs.lemmas.Bool.{and_parts, eqb-true, leb-true}
-use Rattle.eeprom_phy.specs.declared.mdic.Ticked.{Ticked}
-use Rattle.eeprom_phy.specs.declared.phy.Link.{Link}
-use Rattle.eeprom_phy.specs.Mdic as mdi
+use Rattle.registers.specs.declared.mdic.Ticked.{Ticked}
+use Rattle.registers.specs.declared.phy.Link.{Link}
+use Rattle.registers.specs.Mdic as mdi
 use Rattle.registers.specs.Bits.{IsSubset, union}
 use Rattle.rx_engine.specs.declared.arrival.Fate.{Fate}
 use Rattle.rx_engine.specs.declared.arrival.Fate.TheVariants.{Missed, Stored}

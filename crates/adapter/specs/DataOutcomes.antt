@@ -1,6 +1,6 @@
 -- The outcomes of steps, and the causes and counts that the steps record, by the answers of the engines and the PHY.
 use Rattle.std.specs.Prelude.{ℕ, Option, Some, None, if◌then◌else◌}
-use Rattle.eeprom_phy.specs.declared.mdic.Ticked.{Ticked}
+use Rattle.registers.specs.declared.mdic.Ticked.{Ticked}
 use Rattle.registers.specs.Bits.{union}
 use Rattle.registers.specs.Places.{alone, rxdmt0, txdw, txqe}
 use Rattle.rx_engine.specs.declared.data.Data.{Data}

@@ -1,8 +1,8 @@
 -- The values that an adapter writes to a hasher: its whole state except the image of the EEPROM, which never changes (our choice).
 use Rattle.std.specs.Prelude.{◌++◌}
 use Rattle.std.specs.Hash.{HashWrites, u16, u32}
-use Rattle.eeprom_phy.specs.Hashed.{eerd_writes}
-use Rattle.eeprom_phy.specs.Hashed.{mdic_writes, phy_writes}
+use Rattle.registers.specs.Hashed.{eerd_writes}
+use Rattle.registers.specs.Hashed.{mdic_writes, phy_writes}
 use Rattle.rx_engine.specs.Hashed.{filter_writes, receiver_writes}
 use Rattle.tx_engine.specs.Hashed.{transmitter_writes}
 use Rattle.registers.specs.PacketBuffer.{allocation_shown}

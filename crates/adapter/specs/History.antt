@@ -1,7 +1,7 @@
 -- The value of a register whose row has kept bits, by the list of all events at an adapter since power-on.
 use Rattle.std.specs.Prelude.{◌≡◌, ◌==◌, ◌&&◌, ◌||◌, ℕ, Bool, true, false, List, [], ◌∷◌, ◌++◌, Some, bit_and}
 use Rattle.std.specs.List.{list_any}
-use Rattle.eeprom_phy.specs.declared.phy.Link.{Link}
+use Rattle.registers.specs.declared.phy.Link.{Link}
 use Rattle.rx_engine.specs.declared.arrival.Fate.{Fate}
 use Rattle.adapter.specs.declared.register.Register.{Register}
 use Rattle.adapter.specs.declared.register.Register.TheVariants.{Ctrl, Receive, Transmit}

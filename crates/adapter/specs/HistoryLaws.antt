@@ -3,9 +3,9 @@ use Rattle.std.proofs.Common.{◌≡◌, ◌≢◌, ◌+◌, ◌==◌, ◌&&◌,
 use Rattle.std.proofs.Common.{subst, if◌then◌else◌}
 use Rattle.std.specs.List.{list_any}
 use Rattle.std.proofs.lemmas.Bool.{and_parts, eq-eqb, eqb-true, false≢true, or_parts}
-use Rattle.eeprom_phy.specs.declared.mdic.Ticked.{Ticked}
-use Rattle.eeprom_phy.specs.Mdic as mdi
-use Rattle.eeprom_phy.specs.Phy.{new_phy}
+use Rattle.registers.specs.declared.mdic.Ticked.{Ticked}
+use Rattle.registers.specs.Mdic as mdi
+use Rattle.registers.specs.Phy.{new_phy}
 use Rattle.rx_engine.specs.declared.arrival.Fate.{Fate}
 use Rattle.rx_engine.specs.declared.arrival.Fate.TheVariants.{Missed, Stored}
 use Rattle.adapter.specs.declared.register.Register.{Register}

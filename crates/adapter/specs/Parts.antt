@@ -1,12 +1,12 @@
--- The operations on EERD, MDIC and the PHY among the events at an adapter. With these operations, the laws of `eeprom_phy` over all lists of
+-- The operations on EERD, MDIC and the PHY among the events at an adapter. With these operations, the laws of `registers` over all lists of
 -- writes and ticks apply to the adapter's registers.
 use Rattle.std.specs.Prelude.{◌≡◌, ℕ, false, true, List, [], ◌∷◌, ◌++◌, Option, Some, if◌then◌else◌}
 use Rattle.std.specs.List.{list_any}
-use Rattle.eeprom_phy.specs.EerdHistory as eerd
-use Rattle.eeprom_phy.specs.declared.phy.Link.{Link}
-use Rattle.eeprom_phy.specs.MdicHistory.{MdicEvent, mdic_reads, phy_of}
-use Rattle.eeprom_phy.specs.MdicHistory as mdic
-use Rattle.eeprom_phy.specs.Phy.{new_phy}
+use Rattle.registers.specs.EerdHistory as eerd
+use Rattle.registers.specs.declared.phy.Link.{Link}
+use Rattle.registers.specs.MdicHistory.{MdicEvent, mdic_reads, phy_of}
+use Rattle.registers.specs.MdicHistory as mdic
+use Rattle.registers.specs.Phy.{new_phy}
 use Rattle.adapter.specs.declared.register.Register.{Register}
 use Rattle.adapter.specs.declared.register.Register.TheVariants.{Ctrl, Eerd, Mdic}
 use Rattle.adapter.specs.declared.step.StepKind.TheVariants.{EepromTick, PhyTick}

@@ -3,19 +3,19 @@ use Rattle.std.proofs.Common.{◌≡◌, ℕ, Bool, true, false, List, [], ◌�
 use Rattle.std.specs.List.{list_any}
 use Rattle.std.specs.Option.{is_some}
 use Rattle.std.proofs.lemmas.Bool.{or_parts, true≢false}
-use Rattle.eeprom_phy.specs.Eerd.{shown}
-use Rattle.eeprom_phy.specs.EerdHistory as eerd
-use Rattle.eeprom_phy.specs.EerdLaws.{after_all-append}
-use Rattle.eeprom_phy.specs.declared.mdic.Operation.{Operation}
-use Rattle.eeprom_phy.specs.declared.mdic.Ticked.{Ticked}
-use Rattle.eeprom_phy.specs.declared.phy.Negotiation.{Negotiation}
-use Rattle.eeprom_phy.specs.declared.phy.Negotiation.TheVariants.{NotStarted, Running, Complete}
-use Rattle.eeprom_phy.specs.Mdic.{MdicState, mdic_after_tick, phy_after_tick, told, phy_ended}
-use Rattle.eeprom_phy.specs.Mdic as mdi
-use Rattle.eeprom_phy.specs.MdicHistory.{MdicAndPhy, after_mdic_events}
-use Rattle.eeprom_phy.specs.MdicLaws.{accesses_by_history, after_mdic_events-append}
-use Rattle.eeprom_phy.specs.Phy.{PhyState, counted_down, is_counting, is_running, new_phy}
-use Rattle.eeprom_phy.specs.Phy as phy
+use Rattle.registers.specs.Eerd.{shown}
+use Rattle.registers.specs.EerdHistory as eerd
+use Rattle.registers.specs.EerdLaws.{after_all-append}
+use Rattle.registers.specs.declared.mdic.Operation.{Operation}
+use Rattle.registers.specs.declared.mdic.Ticked.{Ticked}
+use Rattle.registers.specs.declared.phy.Negotiation.{Negotiation}
+use Rattle.registers.specs.declared.phy.Negotiation.TheVariants.{NotStarted, Running, Complete}
+use Rattle.registers.specs.Mdic.{MdicState, mdic_after_tick, phy_after_tick, told, phy_ended}
+use Rattle.registers.specs.Mdic as mdi
+use Rattle.registers.specs.MdicHistory.{MdicAndPhy, after_mdic_events}
+use Rattle.registers.specs.MdicLaws.{accesses_by_history, after_mdic_events-append}
+use Rattle.registers.specs.Phy.{PhyState, counted_down, is_counting, is_running, new_phy}
+use Rattle.registers.specs.Phy as phy
 use Rattle.adapter.specs.declared.register.Register.{Register}
 use Rattle.adapter.specs.declared.register.Register.TheVariants.{Ctrl, Eerd, Mdic}
 use Rattle.adapter.specs.declared.step.StepKind.TheVariants.{TxTake, TxPut, RxData, RxDone, EepromTick, PhyTick}
@@ -52,7 +52,7 @@ phy-idle None value state none still =
 
 -- A step `PhyTick` changes MDIC and the PHY as a `Tick` event of MDIC does, even if the step has nothing to do.
 both-ticked : (state : AdapterState)
-    → both_of (after_phy_tick state) ≡ after_mdic_events (Rattle.eeprom_phy.specs.MdicHistory.Tick ∷ []) (both_of state)
+    → both_of (after_phy_tick state) ≡ after_mdic_events (Rattle.registers.specs.MdicHistory.Tick ∷ []) (both_of state)
 both-ticked state = by_test (mdi.has_work state.mdic state.phy) (λ none. none)
   where
     what : Ticked
@@ -78,7 +78,7 @@ both-written Ctrl value state = by_test (is_reset Ctrl value)
   where
     by_test : (test : Bool)
         → both_of (if test then after_reset state else by_row (row_of Ctrl).kept Ctrl value state)
-        ≡ after_mdic_events (if test then Rattle.eeprom_phy.specs.MdicHistory.Write 0 ∷ [] else []) (both_of state)
+        ≡ after_mdic_events (if test then Rattle.registers.specs.MdicHistory.Write 0 ∷ [] else []) (both_of state)
     by_test true = refl
     by_test false = refl
 both-written _ value state = refl

@@ -5,7 +5,7 @@ use Rattle.std.proofs.Common.{replicate, slice_index, refl, sym, ◌∙◌, ap, 
 use Rattle.std.proofs.lemmas.Bool.{ne_eqb}
 use Rattle.std.proofs.lemmas.List.{get_or-replicate, get_or-set_other, get_or-set_same}
 use Rattle.std.proofs.lemmas.Nat.Bits.{bit_at_and, bit_at-lt}
-use Rattle.eeprom_phy.specs.Phy.{PhyState, link_is_up, new_phy}
+use Rattle.registers.specs.Phy.{PhyState, link_is_up, new_phy}
 use Rattle.registers.specs.Kept.{status_of_link_up}
 use Rattle.adapter.specs.declared.register.RingRegister.{RingRegister}
 use Rattle.adapter.specs.declared.register.RingRegister.TheVariants.{BaseLow, BaseHigh, Length, Head, Tail}

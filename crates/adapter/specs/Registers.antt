@@ -1,11 +1,11 @@
 -- The value that a read of a register returns, and the state after power-on, a reset, a read and a write.
 use Rattle.std.specs.Prelude.{◌&&◌, ℕ, Bool, false, List, ◌∷◌, Option, Some, None, bit_and, replicate, slice_index, slice_set}
 use Rattle.std.specs.Prelude.{if◌then◌else◌}
-use Rattle.eeprom_phy.specs.declared.eerd.ReadState.TheVariants.{Idle}
-use Rattle.eeprom_phy.specs.Eerd as eeprom
-use Rattle.eeprom_phy.specs.declared.phy.Link.{Link}
-use Rattle.eeprom_phy.specs.Mdic as mdi
-use Rattle.eeprom_phy.specs.Phy.{PhyState, link_is_up, new_phy}
+use Rattle.registers.specs.declared.eerd.ReadState.TheVariants.{Idle}
+use Rattle.registers.specs.Eerd as eeprom
+use Rattle.registers.specs.declared.phy.Link.{Link}
+use Rattle.registers.specs.Mdic as mdi
+use Rattle.registers.specs.Phy.{PhyState, link_is_up, new_phy}
 use Rattle.registers.specs.Bits.{is_set, union, difference}
 use Rattle.registers.specs.Kept.{causes_of, status_of_link_up}
 use Rattle.registers.specs.Places.{ctrl_rst, ctrl_slu}

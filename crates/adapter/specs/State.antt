@@ -1,8 +1,8 @@
 -- The state of an adapter, as plain data.
 use Rattle.std.specs.Prelude.{◌≡◌, ◌≤◌, ℕ, List, length}
-use Rattle.eeprom_phy.specs.declared.eerd.ReadState.{ReadState}
-use Rattle.eeprom_phy.specs.Mdic.{MdicState}
-use Rattle.eeprom_phy.specs.Phy.{PhyState}
+use Rattle.registers.specs.declared.eerd.ReadState.{ReadState}
+use Rattle.registers.specs.Mdic.{MdicState}
+use Rattle.registers.specs.Phy.{PhyState}
 use Rattle.registers.specs.Bits.{IsSubset}
 use Rattle.registers.specs.Kept.{all_causes}
 use Rattle.registers.specs.Counting.{greatest_count}

@@ -2,7 +2,7 @@
 use Rattle.std.specs.Prelude.{ℕ, List}
 use Rattle.adapter.specs.declared.adapter.Adapter.TheInside.{Inside}
 use Rattle.adapter.specs.declared.register_file.RegisterFile.{RegisterFile}
-use Rattle.eeprom_phy.specs.declared.phy.Link.TheVariants.{Never}
+use Rattle.registers.specs.declared.phy.Link.TheVariants.{Never}
 use Rattle.adapter.specs.Hashed.{file_of}
 use Rattle.adapter.specs.Registers.{adapter_at_reset, new_adapter}
 use Rattle.adapter.specs.State.{AdapterState, IsAdapter}

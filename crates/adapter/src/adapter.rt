@@ -13,8 +13,7 @@ use crate::register_file::RegisterFile;
 use crate::step::StepKind;
 use bitflags::Flags;
 use dma_memory::HostMemory;
-use eeprom_phy::{Image, Link, Phy, Ticked};
-use registers::{Cause, Ctrl, PacketBufferAllocation, Status};
+use registers::{Cause, Ctrl, Image, Link, PacketBufferAllocation, Phy, Status, Ticked};
 use rx_engine::RxEngine;
 use std::alloc::{AllocError, Global};
 use std::hash::Hasher;
@@ -77,8 +76,8 @@ impl Adapter {
     ghost use Rattle.adapter.specs.State.{IsAdapter};
     ghost use Rattle.adapter.specs.Steps.{Answers, ChangesAtMost, after_step, memory_after_step};
     ghost use Rattle.adapter.specs.declared.outcome.Outcome.TheVariants.{Fault, Nothing};
-    ghost use Rattle.eeprom_phy.specs.Eerd.{is_pending};
-    ghost use Rattle.eeprom_phy.specs.Mdic.{has_work};
+    ghost use Rattle.registers.specs.Eerd.{is_pending};
+    ghost use Rattle.registers.specs.Mdic.{has_work};
 
     /// Returns an adapter after power-on, with this EEPROM. `link` is the number of ticks of the PHY that negotiation
     /// takes until the link is up, or `Never`. Both packet buffers are empty. This call allocates their memory, and no
@@ -218,8 +217,8 @@ impl Adapter {
     ghost use Rattle.adapter.specs.State.{IsAdapter};
     ghost use Rattle.adapter.specs.declared.outcome.Outcome.TheVariants as outcome;
     ghost use Rattle.adapter.specs.Outcomes.{framed};
-    ghost use Rattle.eeprom_phy.specs.Eerd.{is_pending};
-    ghost use Rattle.eeprom_phy.specs.Mdic.{has_work};
+    ghost use Rattle.registers.specs.Eerd.{is_pending};
+    ghost use Rattle.registers.specs.Mdic.{has_work};
     ghost use Rattle.adapter.specs.Steps.{after_eeprom_tick, after_phy_tick, ticked};
     ghost use Rattle.adapter.specs.Table.{IsInTable};
 

@@ -44,7 +44,7 @@ pub fn plain_by_history()
     ensures { PlainByHistory }
 {}
 
-/// The laws of the crate `eeprom_phy` apply to EERD, MDIC and the PHY, after any accesses, steps and arrivals since
+/// The laws of the crate `registers` apply to EERD, MDIC and the PHY, after any accesses, steps and arrivals since
 /// power-on. A reset by CTRL.RST sets EERD to its value after power-on. For MDIC, the reset counts as a write of 0,
 /// which contains no command.
 pub fn parts_have_their_laws()

@@ -10,8 +10,7 @@ ghost use Rattle.adapter.specs.Table.{address_high_at_reset, address_low_at_rese
 
 use crate::ring::RingRegisters;
 use bitflags::Flags;
-use eeprom_phy::{Eerd, Image, Mdic};
-use registers::{Cause, Causes, Counter, Ctrl, Tctl};
+use registers::{Cause, Causes, Counter, Ctrl, Eerd, Image, Mdic, Tctl};
 use rx_engine::{Fate, Filter, VLAN_TYPE};
 use std::alloc::AllocError;
 use std::hash::{Hash, Hasher};

@@ -3,7 +3,7 @@
 ghost use Rattle.std.specs.Prelude.{◌≡◌};
 ghost use Rattle.adapter_server.specs.Defaults.{default_options};
 
-use eeprom_phy::{Image, Link};
+use registers::{Image, Link};
 
 /// The options of a served adapter.
 #[derive(Clone, Copy)]

@@ -1,8 +1,8 @@
 -- The settings after all writes of initialization.
 use Rattle.std.proofs.Common.{◌≡◌, ◌++◌, ◌∷◌, ◌+◌, ◌-◌, ◌*◌, ◌<◌, ◌^◌, [], ℕ, List, length, replicate, refl, sym, subst, arith}
 use Rattle.std.proofs.lemmas.List.{length-replicate}
-use Rattle.eeprom_phy.specs.Phy.{new_phy}
-use Rattle.eeprom_phy.specs.declared.phy.Link.{Link}
+use Rattle.registers.specs.Phy.{new_phy}
+use Rattle.registers.specs.declared.phy.Link.{Link}
 use Rattle.rx_engine.specs.Addresses.{IsAddress, high_word, low_word}
 use Rattle.rx_engine.specs.Registers.{FilterRegisters}
 use Rattle.adapter.specs.Registers.{adapter_at_reset}

@@ -4,11 +4,11 @@ use Rattle.std.proofs.Common.{zero, suc, ℕ, List, Option, Some, Ok, Err, lengt
 use Rattle.std.specs.Fn.{iterate}
 use Rattle.std.proofs.lemmas.Nat.{or_shifted}
 use Rattle.std.proofs.lemmas.Nat.Bits.{and_pow}
-use Rattle.eeprom_phy.specs.declared.eerd.ReadState.{ReadState}
-use Rattle.eeprom_phy.specs.declared.eerd.ReadState.TheVariants.{Done, Pending}
-use Rattle.eeprom_phy.specs.Eerd as eeprom
-use Rattle.eeprom_phy.specs.Eerd.{after_tick, shown, shown_after, shown_before}
-use Rattle.eeprom_phy.specs.Image.{word_at}
+use Rattle.registers.specs.declared.eerd.ReadState.{ReadState}
+use Rattle.registers.specs.declared.eerd.ReadState.TheVariants.{Done, Pending}
+use Rattle.registers.specs.Eerd as eeprom
+use Rattle.registers.specs.Eerd.{after_tick, shown, shown_after, shown_before}
+use Rattle.registers.specs.Image.{word_at}
 use Rattle.adapter.specs.Registers.{after_read, after_write, answer_at, answer_of, left_by_read, left_by_write}
 use Rattle.adapter.specs.State.{AdapterState}
 use Rattle.adapter.specs.Table.{register_at}

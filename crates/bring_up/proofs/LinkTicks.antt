@@ -5,12 +5,12 @@ use Rattle.std.specs.Bool.{⊤}
 use Rattle.std.specs.Fn.{iterate}
 use Rattle.std.proofs.lemmas.Bool.{false≢true, true≢false}
 use Rattle.std.proofs.lemmas.Bool.Decides.{nat_tests}
-use Rattle.eeprom_phy.specs.declared.phy.Link.{Link}
-use Rattle.eeprom_phy.specs.declared.phy.Link.TheVariants.{After, Never}
-use Rattle.eeprom_phy.specs.declared.phy.Negotiation.{Negotiation}
-use Rattle.eeprom_phy.specs.declared.phy.Negotiation.TheVariants.{NotStarted, Running, Complete}
-use Rattle.eeprom_phy.specs.Mdic.{MdicState}
-use Rattle.eeprom_phy.specs.Phy.{PhyState, after_tick, counted_down, is_complete, link_is_up}
+use Rattle.registers.specs.declared.phy.Link.{Link}
+use Rattle.registers.specs.declared.phy.Link.TheVariants.{After, Never}
+use Rattle.registers.specs.declared.phy.Negotiation.{Negotiation}
+use Rattle.registers.specs.declared.phy.Negotiation.TheVariants.{NotStarted, Running, Complete}
+use Rattle.registers.specs.Mdic.{MdicState}
+use Rattle.registers.specs.Phy.{PhyState, after_tick, counted_down, is_complete, link_is_up}
 use Rattle.registers.specs.Bits.{HasBit, Meet}
 use Rattle.adapter.specs.State.{AdapterState}
 use Rattle.adapter.specs.World.{World}

@@ -1,7 +1,7 @@
 -- The settings after writes of single registers.
 use Rattle.std.proofs.Common.{◌≡◌, ◌++◌, ◌%◌, ℕ, Bool, true, false, List, refl, ap, ◌∙◌, arith}
 use Rattle.std.proofs.lemmas.Bool.Decides.{nat_tests}
-use Rattle.eeprom_phy.specs.Phy.{new_phy}
+use Rattle.registers.specs.Phy.{new_phy}
 use Rattle.adapter.specs.PacketBuffer.{IsAllocation, allocation_written}
 use Rattle.adapter.specs.Registers.{adapter_at_reset}
 use Rattle.adapter.specs.State.{AdapterState}

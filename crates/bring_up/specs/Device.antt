@@ -1,6 +1,6 @@
 -- What a driver knows after it found a device, and after each error.
 use Rattle.std.specs.Prelude.{⊤, ◌≡◌, ◌≤◌, ◌++◌, ◌*◌, ℕ, List, Result, IfErr, IfOk, length}
-use Rattle.eeprom_phy.specs.Image.{HasRightSum}
+use Rattle.registers.specs.Image.{HasRightSum}
 use Rattle.adapter.specs.World.{World}
 use Rattle.bus.specs.Link.{HasLink}
 use Rattle.bus.specs.Pasts.{Past}

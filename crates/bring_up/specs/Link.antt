@@ -2,11 +2,11 @@
 use Rattle.std.specs.Prelude.{⊤, ◌≡◌, ◌≢◌, ◌≤◌, ◌<◌, ◌+◌, ◌*◌, ◌⊎◌, ℕ, true, Err, None, Result, IfErr, IfOk, IsOk, length}
 use Rattle.std.specs.Fn.{iterate}
 use Rattle.adapter.specs.declared.offsets.TheConstants.{MDIC}
-use Rattle.eeprom_phy.specs.declared.phy.Link.{Link}
-use Rattle.eeprom_phy.specs.declared.phy.Link.TheVariants.{After, Never}
-use Rattle.eeprom_phy.specs.Mdic.{ended, kept_bits, operation_of, phy_ended}
-use Rattle.eeprom_phy.specs.Phy.{PhyState, after_tick, negotiation_of}
-use Rattle.eeprom_phy.specs.Places.{control_enable, control_restart, mdic_op, mdic_phyadd, mdic_regadd}
+use Rattle.registers.specs.declared.phy.Link.{Link}
+use Rattle.registers.specs.declared.phy.Link.TheVariants.{After, Never}
+use Rattle.registers.specs.Mdic.{ended, kept_bits, operation_of, phy_ended}
+use Rattle.registers.specs.Phy.{PhyState, after_tick, negotiation_of}
+use Rattle.registers.specs.PhyPlaces.{control_enable, control_restart, mdic_op, mdic_phyadd, mdic_regadd}
 use Rattle.registers.specs.Bits.{HasBit}
 use Rattle.registers.specs.Places.{alone}
 use Rattle.adapter.specs.State.{AdapterState}
@@ -17,7 +17,7 @@ use Rattle.bus.specs.declared.bus.Bus.{Ghosts}
 use Rattle.bring_up.specs.declared.init_error.InitError.{InitError}
 use Rattle.bring_up.specs.declared.init_error.InitError.TheVariants.{NoLink, PhyTimeout}
 use Rattle.bring_up.specs.SettingSteps.{WritesOneRegister}
-use Rattle.eeprom_phy.specs.Places.{status_complete, status_link}
+use Rattle.registers.specs.PhyPlaces.{status_complete, status_link}
 
 -- A PHY with this link right after its autonegotiation was enabled and started.
 abbrev pub started : Link → PhyState

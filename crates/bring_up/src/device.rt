@@ -9,7 +9,7 @@ use crate::eeprom_reading::read_image;
 use crate::init_error::InitError;
 use crate::link::{await_link, negotiate};
 use bus::Bus;
-use eeprom_phy::{Image, checksum_ok};
+use registers::{Image, checksum_ok};
 
 /// Resets the device, reads its EEPROM, assigns `kilobytes` of the packet buffer to received frames, and enables the
 /// link. Then starts negotiation, and waits until the link is up and negotiated. Returns the image of the EEPROM.

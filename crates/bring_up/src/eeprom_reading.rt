@@ -8,7 +8,7 @@ use crate::MOST_READS;
 use crate::init_error::InitError;
 use adapter::offsets::EERD;
 use bus::Bus;
-use eeprom_phy::{Image, WORDS};
+use registers::{Image, WORDS};
 
 /// START, bit 0 of EERD: a write of EERD with START begins a read of the EEPROM.
 const START: u32 = 1 << 0;

@@ -3,7 +3,7 @@
 ghost use Rattle.std.specs.Prelude.{◌≡◌, ◌⊎◌, ◌↔◌, IfErr, IsOkUnless, IsTrue};
 ghost use Rattle.registers.specs.Bits.{Meet};
 ghost use Rattle.registers.specs.Places.{alone};
-ghost use Rattle.eeprom_phy.specs.Places.{status_complete, status_link};
+ghost use Rattle.registers.specs.PhyPlaces.{status_complete, status_link};
 ghost use Rattle.bus.specs.Keeping.{Keeps};
 ghost use Rattle.bring_up.specs.Link.{AwaitsLink, Commands, IsCommand, Negotiates};
 

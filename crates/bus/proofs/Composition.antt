@@ -4,7 +4,7 @@ use Rattle.std.proofs.Common.{arith, length, length-append}
 use Rattle.std.proofs.lemmas.List.{append-nil}
 use Rattle.std.specs.Fn.{iterate}
 use Rattle.std.specs.List.{All}
-use Rattle.eeprom_phy.specs.Eerd as eeprom
+use Rattle.registers.specs.Eerd as eeprom
 use Rattle.registers.specs.Bits.{HasBit}
 use Rattle.registers.specs.Places.{rxt0}
 use Rattle.rx_engine.specs.Pieces.{IsPart, Piece}

@@ -3,11 +3,11 @@ use Rattle.std.proofs.Common.{◌≡◌, [], ℕ, zero, suc, Bool, true, false, 
 use Rattle.std.specs.Fn.{iterate}
 use Rattle.std.specs.List.{All}
 use Rattle.std.proofs.lemmas.Bool.{false≢true}
-use Rattle.eeprom_phy.specs.declared.mdic.Operation.{Operation}
-use Rattle.eeprom_phy.specs.declared.phy.Negotiation.{Negotiation}
-use Rattle.eeprom_phy.specs.declared.phy.Negotiation.TheVariants.{NotStarted, Running, Complete}
-use Rattle.eeprom_phy.specs.Mdic.{has_work, mdic_after_tick, phy_after_tick, phy_ended}
-use Rattle.eeprom_phy.specs.Phy.{after_tick, counted_down, is_complete, link_is_up}
+use Rattle.registers.specs.declared.mdic.Operation.{Operation}
+use Rattle.registers.specs.declared.phy.Negotiation.{Negotiation}
+use Rattle.registers.specs.declared.phy.Negotiation.TheVariants.{NotStarted, Running, Complete}
+use Rattle.registers.specs.Mdic.{has_work, mdic_after_tick, phy_after_tick, phy_ended}
+use Rattle.registers.specs.Phy.{after_tick, counted_down, is_complete, link_is_up}
 use Rattle.adapter.specs.Registers.{after_read, after_write, left_by_read, left_by_write, read_of, write_of}
 use Rattle.adapter.specs.State.{AdapterState}
 use Rattle.adapter.specs.Table.{register_at}

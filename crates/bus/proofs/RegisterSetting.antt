@@ -8,7 +8,7 @@ use Rattle.std.proofs.lemmas.List.{append-nil}
 use Rattle.std.proofs.Math.Nat.{mod-add-mod, mod-eq_of_lt}
 use Rattle.descriptors.specs.Ring.{address_of, count_of, next_of, offered_places, slots_from}
 use Rattle.descriptors.specs.RingLaws.{next-below, places-none}
-use Rattle.eeprom_phy.specs.declared.phy.Link.TheVariants.{Never}
+use Rattle.registers.specs.declared.phy.Link.TheVariants.{Never}
 use Rattle.registers.specs.Bits.{HasBit, field}
 use Rattle.registers.specs.Places.{rctl_en, tctl_psp}
 use Rattle.registers.specs.ReceiveControl.{buffer_size_of}

@@ -3,13 +3,13 @@ use Rattle.std.specs.Fn.{iterate}
 use Rattle.std.proofs.Common.{◌≡◌, ◌≤◌, ◌++◌, [], inl, Bool, true, false, ℕ, List, Option, Some, None, length, refl, sym, ap, arith}
 use Rattle.std.proofs.lemmas.List.{append-nil}
 use Rattle.std.proofs.Common.{cond}
-use Rattle.eeprom_phy.specs.Eerd as eeprom
-use Rattle.eeprom_phy.specs.declared.eerd.ReadState.{ReadState}
-use Rattle.eeprom_phy.specs.Mdic.{MdicState, has_work, mdic_after_tick, phy_after_tick, told}
-use Rattle.eeprom_phy.specs.Mdic as mdi
-use Rattle.eeprom_phy.specs.Phy.{PhyState}
-use Rattle.eeprom_phy.specs.Phy as phy
-use Rattle.eeprom_phy.specs.declared.mdic.Ticked.{Ticked as Told}
+use Rattle.registers.specs.Eerd as eeprom
+use Rattle.registers.specs.declared.eerd.ReadState.{ReadState}
+use Rattle.registers.specs.Mdic.{MdicState, has_work, mdic_after_tick, phy_after_tick, told}
+use Rattle.registers.specs.Mdic as mdi
+use Rattle.registers.specs.Phy.{PhyState}
+use Rattle.registers.specs.Phy as phy
+use Rattle.registers.specs.declared.mdic.Ticked.{Ticked as Told}
 use Rattle.registers.specs.Bits.{HasBit, union}
 use Rattle.registers.specs.Counting.{greatest_count}
 use Rattle.rx_engine.specs.Held.{Holds, held}

@@ -5,8 +5,8 @@ use Rattle.std.proofs.lemmas.Bool.{eq-eqb}
 use Rattle.std.specs.Int.Bits.{or_zero_r}
 use Rattle.std.specs.List.{All}
 use Rattle.std.proofs.lemmas.Nat.Bits.{bit_at_or, same_from_bits}
-use Rattle.eeprom_phy.specs.Mdic.{told}
-use Rattle.eeprom_phy.specs.declared.mdic.Ticked.{Ticked}
+use Rattle.registers.specs.Mdic.{told}
+use Rattle.registers.specs.declared.mdic.Ticked.{Ticked}
 use Rattle.registers.specs.Bits.{HasBit, union}
 use Rattle.registers.specs.Laws.{HasBit-union}
 use Rattle.rx_engine.specs.Moving.{is_half_offered}

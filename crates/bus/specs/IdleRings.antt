@@ -2,7 +2,7 @@
 -- offered ("14.4 Receive Initialization", "14.5 Transmit Initialization").
 use Rattle.std.specs.Prelude.{⊤, ◌≡◌, ℕ, List, [], ◌∷◌, None, length, take}
 use Rattle.dma_memory.specs.Areas.{AreSeparate}
-use Rattle.eeprom_phy.specs.declared.phy.Link.{Link}
+use Rattle.registers.specs.declared.phy.Link.{Link}
 use Rattle.rx_engine.specs.Receiver.{Receiver, oldest}
 use Rattle.adapter.specs.Registers.{after_reset, new_adapter, write_of}
 use Rattle.adapter.specs.declared.register.Register.{Register}

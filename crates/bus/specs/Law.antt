@@ -2,9 +2,9 @@
 use Rattle.std.specs.Prelude.{◌≡◌, ◌≤◌, ◌+◌, ◌⊎◌, ◌++◌, ℕ, List, [], ◌∷◌, All, length, max, min, if◌then◌else◌}
 use Rattle.std.specs.Fn.{iterate}
 use Rattle.dma_memory.specs.Areas.{Area, bytes_in}
-use Rattle.eeprom_phy.specs.Eerd as eeprom
-use Rattle.eeprom_phy.specs.Mdic.{MdicState, has_work, mdic_after_tick, phy_after_tick}
-use Rattle.eeprom_phy.specs.Phy.{PhyState}
+use Rattle.registers.specs.Eerd as eeprom
+use Rattle.registers.specs.Mdic.{MdicState, has_work, mdic_after_tick, phy_after_tick}
+use Rattle.registers.specs.Phy.{PhyState}
 use Rattle.registers.specs.Bits.{HasBit}
 use Rattle.registers.specs.Counting.{greatest_count}
 use Rattle.descriptors.specs.Frames.{IsLegal}

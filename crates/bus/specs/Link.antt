@@ -1,6 +1,6 @@
 -- A link that is up remains up while a driver sets the adapter up (our choice).
 use Rattle.std.specs.Prelude.{⊤, ◌≡◌, true, [], ◌∷◌, All, Option, Some, None}
-use Rattle.eeprom_phy.specs.Phy.{link_is_up}
+use Rattle.registers.specs.Phy.{link_is_up}
 use Rattle.adapter.specs.Table.{register_at}
 use Rattle.adapter.specs.World.{World}
 use Rattle.adapter.specs.declared.register.Register.{Register}

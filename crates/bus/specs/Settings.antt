@@ -1,8 +1,8 @@
 -- The settings of an adapter: the registers that only a driver's writes change, and values that never change (our choice).
 use Rattle.std.specs.Prelude.{⊤, ◌≡◌, ℕ, List, [], ◌∷◌, All, Option, Some}
 use Rattle.registers.specs.Bits.{HasBit}
-use Rattle.eeprom_phy.specs.Phy.{new_phy}
-use Rattle.eeprom_phy.specs.declared.phy.Link.{Link}
+use Rattle.registers.specs.Phy.{new_phy}
+use Rattle.registers.specs.declared.phy.Link.{Link}
 use Rattle.registers.specs.Places.{rctl_en}
 use Rattle.rx_engine.specs.Registers.{FilterRegisters}
 use Rattle.adapter.specs.declared.ring.RingRegisters.{RingRegisters}

@@ -1,8 +1,8 @@
 -- The interrupt causes that each event of a trail records (13.4.17 "Interrupt Cause Read Register"), and when recorded causes and the mask
 -- don't change otherwise.
 use Rattle.std.specs.Prelude.{◌≡◌, ℕ, Bool, true, List, [], ◌∷◌, Option, Some, None, All, if◌then◌else◌}
-use Rattle.eeprom_phy.specs.declared.mdic.Ticked.{Ticked}
-use Rattle.eeprom_phy.specs.Mdic.{told}
+use Rattle.registers.specs.declared.mdic.Ticked.{Ticked}
+use Rattle.registers.specs.Mdic.{told}
 use Rattle.registers.specs.Bits.{HasBit, union}
 use Rattle.registers.specs.Places.{alone, lsc, mdac, rxdmt0, rxo, rxt0, txdw, txqe}
 use Rattle.rx_engine.specs.Moving.{is_half_offered}

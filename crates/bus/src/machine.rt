@@ -12,8 +12,8 @@ ghost use Rattle.bus.specs.Trails.{Occurs};
 ghost use Rattle.bus.specs.Machines.{after_event, is_asserted};
 ghost use Rattle.bus.specs.declared.event.Access.TheVariants.{Reads, Stores, Writes};
 ghost use Rattle.bus.specs.declared.event.Event.TheVariants.{Accesses, Arrives, Steps};
-ghost use Rattle.eeprom_phy.specs.Eerd.{is_pending};
-ghost use Rattle.eeprom_phy.specs.Mdic.{has_work};
+ghost use Rattle.registers.specs.Eerd.{is_pending};
+ghost use Rattle.registers.specs.Mdic.{has_work};
 ghost use Rattle.descriptors.specs.Frames.{longest_frame};
 ghost use Rattle.dma_memory.specs.HostMemory.{bytes_at, LiesIn};
 

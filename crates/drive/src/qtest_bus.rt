@@ -197,7 +197,7 @@ impl<R: BufRead, W: Write> QtestBus<R, W> {
 impl<R: BufRead, W: Write> Bus for QtestBus<R, W> {
     ghost use Rattle.std.specs.Prelude.{[], ⊤};
     ghost use Rattle.adapter.specs.Registers.{new_adapter};
-    ghost use Rattle.eeprom_phy.specs.declared.phy.Link.TheVariants.{Never};
+    ghost use Rattle.registers.specs.declared.phy.Link.TheVariants.{Never};
     ghost use Rattle.drive.specs.QtestLaws.{asks_here, asks_on};
     ghost use Rattle.drive.specs.QtestState.{AsksAll, is_never, memory_size};
 

@@ -12,7 +12,7 @@ use Rattle.registers.specs.Counting.{greatest_count}
 use Rattle.dma_memory.specs.Layout.{Counts, receive_buffer_bytes}
 use Rattle.descriptors.specs.RingLaws.{place}
 use Rattle.rx_engine.specs.Addresses.{IsAddress}
-use Rattle.eeprom_phy.specs.Image.{HasRightSum, address_bytes}
+use Rattle.registers.specs.Image.{HasRightSum, address_bytes}
 use Rattle.rx_engine.specs.Pieces.{frames_of}
 use Rattle.adapter.specs.HostFrames.{frames_held, frames_to_send, piece_in}
 use Rattle.adapter.specs.Rings.{new_ring}

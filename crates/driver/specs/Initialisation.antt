@@ -5,7 +5,7 @@ use Rattle.adapter.specs.declared.offsets.TheConstants.{RDBAL, RDT, TDBAL}
 use Rattle.registers.specs.Counting.{greatest_count}
 use Rattle.dma_memory.specs.Layout.{Counts, descriptor_bytes}
 use Rattle.dma_memory.specs.Owners.{HasOneOwner, HaveSameNumbers}
-use Rattle.eeprom_phy.specs.Image.{HasRightSum, address_bytes}
+use Rattle.registers.specs.Image.{HasRightSum, address_bytes}
 use Rattle.rx_engine.specs.Addresses.{IsAddress}
 use Rattle.rx_engine.specs.NumberTables.{HasNumbers, numbers_of_groups}
 use Rattle.adapter.specs.HostFrames.{frames_held, frames_to_send}

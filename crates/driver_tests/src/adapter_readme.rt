@@ -4,8 +4,7 @@ use adapter::offsets::{GPRC, ICR, RCTL, RDLEN, RDT};
 use adapter::{Adapter, Fate, Outcome, StepKind};
 use bitflags::Flags;
 use dma_memory::HostMemory;
-use eeprom_phy::{Image, Link};
-use registers::{Cause, Rctl};
+use registers::{Cause, Image, Link, Rctl};
 use std::test::Fail;
 
 #[test]

@@ -5,7 +5,7 @@ use arrayvec::ArrayVec;
 use bring_up::{Config, InitError};
 use bus::Bus;
 use dma_memory::HostMemory;
-use eeprom_phy::{Image, Link};
+use registers::{Image, Link};
 use packet_socket::{Host, SocketKind};
 use solo_bus::SoloBus;
 use std::alloc::{AllocError, Global};

@@ -12,8 +12,6 @@ mod descriptors_readme;
 #[cfg(test)]
 mod dma_memory_readme;
 #[cfg(test)]
-mod eeprom_phy_readme;
-#[cfg(test)]
 mod memory;
 #[cfg(test)]
 mod no_memory;

@@ -2,7 +2,7 @@
 
 use bus::StoredBytes;
 use dma_memory::{HostMemory, LayoutError, OutOfRange, Pool};
-use eeprom_phy::Image;
+use registers::Image;
 use solo_bus::sound_buses::{with_buffered_frame, with_work};
 use std::alloc::Global;
 use std::test::Fail;

@@ -1,7 +1,7 @@
 //! The code of the README of `registers`, word for word.
 
 use bitflags::Flags;
-use registers::{Cause, Causes, Counter, GroupOffset, PciFunction, PortWidth, Rctl, Status};
+use registers::{Cause, Causes, Link, Mdic, PciFunction, Phy, PortWidth};
 
 #[test]
 fn the_code_of_the_readme_of_registers(rt: HostRuntime) {
@@ -10,20 +10,24 @@ fn the_code_of_the_readme_of_registers(rt: HostRuntime) {
     causes.raise(Cause::RXO); // a frame was missed: recorded, and not in the mask
     assert!(rt; !causes.line());
     causes.raise(Cause::RXT0); // a receive descriptor was written back
-    assert!(rt; causes.line() && causes.read() == 0xC0); // a read of ICR: bits 6 and 7, which are then cleared
-    assert!(rt; !causes.line());
-    assert!(rt; Rctl::kept(0xFFFF_FFFF).bits() == 0x0607_B33A);
-    assert!(rt; Rctl::kept(0x3000).group_offset() == GroupOffset::Bits43To32); // MO 11
-    assert!(rt; Status::of_link(true).bits() == 0x83 && Counter::at(7).read() == 7);
+    assert!(rt; causes.line() && causes.read() == 0xC0); // a read of ICR, which clears bits 6 and 7
 }
 
 #[test]
 fn the_code_of_the_readme_of_registers_where_ports_are_accessed(rt: HostRuntime) {
     let mut function = PciFunction::new(0xFEB0_0000);
-    function.write_port(0xCF8, PortWidth::Long, 0x8000_2000); // bus 0, device 4, function 0, dword 0
-    let identity = function.read_port(0xCFC, PortWidth::Long, false);
-    assert_eq!(rt; identity, 0x100E_8086);
     function.write_port(0xCF8, PortWidth::Long, 0x8000_2010); // base address register 0
     function.write_port(0xCFE, PortWidth::Word, 0xE000); // the high half
     assert_eq!(rt; function.registers(), Some(0xE000_0000));
+}
+
+#[test]
+fn the_code_of_the_readme_of_registers_where_a_link_comes_up(rt: HostRuntime) {
+    let mut phy = Phy::new(Link::After(1));
+    let mut mdic = Mdic::new();
+    mdic.write(0x0420_1200); // OP 01, PHYADD 1, REGADD 0: bits 12 and 9 start the negotiation
+    mdic.tick(&mut phy);
+    assert_eq!(rt; mdic.read(), 0x1420_1200); // R: the command has ended
+    mdic.tick(&mut phy);
+    assert!(rt; phy.link_is_up());
 }

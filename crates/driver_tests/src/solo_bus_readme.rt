@@ -4,7 +4,7 @@ use adapter::offsets::EERD;
 use adapter::{Adapter, StepKind};
 use bus::Bus;
 use dma_memory::HostMemory;
-use eeprom_phy::{Image, Link};
+use registers::{Image, Link};
 use solo_bus::{SoloBus, SoloTick};
 use std::test::Fail;
 

@@ -7,12 +7,12 @@ use Rattle.std.proofs.Common.{sym, ap, ◌∙◌, arith}
 use Rattle.std.specs.Prelude.{is_some, nat_le}
 use Rattle.std.proofs.lemmas.List.{length-map}
 use Rattle.std.proofs.lemmas.Bool.Decides.{eqb_tells}
-use Rattle.eeprom_phy.specs.Eerd.{is_pending}
-use Rattle.eeprom_phy.specs.declared.mdic.Operation.{Operation}
-use Rattle.eeprom_phy.specs.declared.phy.Negotiation.{Negotiation}
-use Rattle.eeprom_phy.specs.declared.phy.Negotiation.TheVariants.{NotStarted, Running, Complete}
-use Rattle.eeprom_phy.specs.Mdic.{has_work}
-use Rattle.eeprom_phy.specs.Phy.{PhyState, is_running}
+use Rattle.registers.specs.Eerd.{is_pending}
+use Rattle.registers.specs.declared.mdic.Operation.{Operation}
+use Rattle.registers.specs.declared.phy.Negotiation.{Negotiation}
+use Rattle.registers.specs.declared.phy.Negotiation.TheVariants.{NotStarted, Running, Complete}
+use Rattle.registers.specs.Mdic.{has_work}
+use Rattle.registers.specs.Phy.{PhyState, is_running}
 use Rattle.registers.specs.Bits.{HasBit, is_set}
 use Rattle.registers.specs.Places.{rctl_en, tctl_en}
 use Rattle.rx_engine.specs.Receiver.{oldest}

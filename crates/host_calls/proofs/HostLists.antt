@@ -12,8 +12,8 @@ use Rattle.adapter.specs.World.{World}
 use Rattle.adapter.specs.declared.outcome.Outcome.TheVariants as outcome
 use Rattle.adapter.specs.declared.step.StepKind.{StepKind}
 use Rattle.adapter.specs.declared.step.StepKind.TheVariants.{EepromTick, PhyTick, RxData, RxDone, TxPut, TxTake}
-use Rattle.eeprom_phy.specs.Eerd.{is_pending}
-use Rattle.eeprom_phy.specs.Mdic.{has_work}
+use Rattle.registers.specs.Eerd.{is_pending}
+use Rattle.registers.specs.Mdic.{has_work}
 use Rattle.rx_engine.specs.Arriving.{kept}
 use Rattle.rx_engine.specs.declared.arrival.Fate.{Fate}
 use Rattle.bus.specs.StepsAndArrivals.{past_of_step}

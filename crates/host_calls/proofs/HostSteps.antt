@@ -7,15 +7,15 @@ use Rattle.std.specs.List.{All}
 use Rattle.std.proofs.lemmas.Bool.{leb-false}
 use Rattle.std.proofs.lemmas.Bool.Decides.{leb_tells}
 use Rattle.std.proofs.lemmas.List.{append-nil, map-append}
-use Rattle.eeprom_phy.specs.Eerd as eeprom
-use Rattle.eeprom_phy.specs.declared.eerd.ReadState.{ReadState}
-use Rattle.eeprom_phy.specs.declared.eerd.ReadState.TheVariants as reading
-use Rattle.eeprom_phy.specs.declared.mdic.Operation.{Operation}
-use Rattle.eeprom_phy.specs.declared.mdic.Ticked.{Ticked}
-use Rattle.eeprom_phy.specs.declared.phy.Negotiation.{Negotiation}
-use Rattle.eeprom_phy.specs.declared.phy.Negotiation.TheVariants.{NotStarted, Running, Complete}
-use Rattle.eeprom_phy.specs.Mdic.{has_work, phy_after_tick, told}
-use Rattle.eeprom_phy.specs.Phy.{PhyState, counted_down, is_running}
+use Rattle.registers.specs.Eerd as eeprom
+use Rattle.registers.specs.declared.eerd.ReadState.{ReadState}
+use Rattle.registers.specs.declared.eerd.ReadState.TheVariants as reading
+use Rattle.registers.specs.declared.mdic.Operation.{Operation}
+use Rattle.registers.specs.declared.mdic.Ticked.{Ticked}
+use Rattle.registers.specs.declared.phy.Negotiation.{Negotiation}
+use Rattle.registers.specs.declared.phy.Negotiation.TheVariants.{NotStarted, Running, Complete}
+use Rattle.registers.specs.Mdic.{has_work, phy_after_tick, told}
+use Rattle.registers.specs.Phy.{PhyState, counted_down, is_running}
 use Rattle.rx_engine.specs.declared.arrival.Fate.{Fate}
 use Rattle.rx_engine.specs.declared.arrival.Fate.TheVariants.{Off, Stored}
 use Rattle.rx_engine.specs.Receiver.{oldest}

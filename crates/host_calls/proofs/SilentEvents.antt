@@ -4,8 +4,8 @@ use Rattle.std.proofs.Common.{if◌then◌else◌, refl, sym, ap, subst, ◌∙�
 use Rattle.std.specs.List.{All}
 use Rattle.std.proofs.lemmas.Bool.Decides.{eqb_tells}
 use Rattle.std.proofs.lemmas.List.Elements.{All-cons}
-use Rattle.eeprom_phy.specs.Mdic.{has_work}
-use Rattle.eeprom_phy.specs.declared.mdic.Ticked.{Ticked}
+use Rattle.registers.specs.Mdic.{has_work}
+use Rattle.registers.specs.declared.mdic.Ticked.{Ticked}
 use Rattle.registers.specs.Bits.{HasBit}
 use Rattle.registers.specs.Laws.{HasBit-union, HasBit-zero}
 use Rattle.adapter.specs.State.{AdapterState}

@@ -8,11 +8,11 @@ use Rattle.registers.specs.Kept.{receive_control_mask, transmit_control_mask}
 use Rattle.registers.specs.Places.{ctrl_rst, rctl_en, tctl_en}
 use Rattle.descriptors.specs.declared.ring.Ring.{Ring}
 use Rattle.descriptors.specs.Ring.{count_of}
-use Rattle.eeprom_phy.specs.Eerd.{has_start, is_pending}
-use Rattle.eeprom_phy.specs.declared.phy.Negotiation.{Negotiation}
-use Rattle.eeprom_phy.specs.declared.phy.Negotiation.TheVariants.{NotStarted, Running, Complete}
-use Rattle.eeprom_phy.specs.Mdic.{MdicState, phy_after_tick}
-use Rattle.eeprom_phy.specs.Phy.{PhyState}
+use Rattle.registers.specs.Eerd.{has_start, is_pending}
+use Rattle.registers.specs.declared.phy.Negotiation.{Negotiation}
+use Rattle.registers.specs.declared.phy.Negotiation.TheVariants.{NotStarted, Running, Complete}
+use Rattle.registers.specs.Mdic.{MdicState, phy_after_tick}
+use Rattle.registers.specs.Phy.{PhyState}
 use Rattle.rx_engine.specs.Arriving.{kept}
 use Rattle.rx_engine.specs.Moving.{buffer_bytes}
 use Rattle.adapter.specs.declared.register.Register.{Register}

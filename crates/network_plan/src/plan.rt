@@ -7,7 +7,7 @@ ghost use Rattle.network_plan.specs.Plans.{HasWire, IsName, IsPlanAnswer, IsSame
 use crate::plan_error::PlanError;
 use arrayvec::ArrayVec;
 use bring_up::Config;
-use eeprom_phy::{Image, Link};
+use registers::{Image, Link};
 use packet_socket::SocketKind;
 
 /// The maximum number of bytes of a name (our choice).

@@ -2,7 +2,7 @@
 use Rattle.std.specs.Prelude.{⊤, ◌≡◌, ◌≢◌, ◌⊎◌, ◌↔◌, ◌++◌, ℕ, Err, List, Result, Some, length, slice_get}
 use Rattle.adapter.specs.HostFrames.{frames_to_send}
 use Rattle.adapter.specs.World.{World}
-use Rattle.eeprom_phy.specs.declared.phy.Link.TheVariants.{Never}
+use Rattle.registers.specs.declared.phy.Link.TheVariants.{Never}
 use Rattle.bring_up.specs.Link.{NeedsMoreThan}
 use Rattle.bring_up.specs.declared.init_error.InitError.{InitError}
 use Rattle.host_calls.specs.DrainedHosts.{HoldsNothing}

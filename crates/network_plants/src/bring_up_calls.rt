@@ -17,7 +17,7 @@ ghost use Rattle.bus.specs.DriverState.{DriverState, address_limit, receive_slot
 use bring_up::{Config, InitError};
 use bus::Bus;
 use dma_memory::Layout;
-use eeprom_phy::Image;
+use registers::Image;
 use rx_engine::TABLE_WORDS;
 
 /// A twin of [`bring_up::find_device`].

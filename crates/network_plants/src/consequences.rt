@@ -3,7 +3,7 @@
 
 ghost use Rattle.std.specs.Prelude.{◌≡◌, ◌≢◌, ◌*◌, ◌+◌, ◌≤◌, ◌++◌, ◌∷◌, [], All, IsOk, List, length};
 ghost use Rattle.dma_memory.specs.Layout.{size_of};
-ghost use Rattle.eeprom_phy.specs.Image.{HasRightSum};
+ghost use Rattle.registers.specs.Image.{HasRightSum};
 ghost use Rattle.bring_up.specs.EepromReading.{most_reads};
 ghost use Rattle.bring_up.specs.Link.{NeedsMoreThan};
 ghost use Rattle.driver.specs.HandlerSteps.{GrowsBy, IfHandled};
@@ -14,7 +14,7 @@ ghost use Rattle.packet_socket.specs.declared.socket_kind.SocketKind.TheVariants
 use bring_up::InitError;
 use bus::Bus;
 use driver::{Driver, Handled, Receiver};
-use eeprom_phy::Image;
+use registers::Image;
 use packet_socket::Host;
 
 /// Over a lively bus that obeys the law, a device with a right checksum is found if its link needs at most 2,000 ticks.

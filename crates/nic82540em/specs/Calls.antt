@@ -10,8 +10,8 @@ use Rattle.adapter.specs.declared.step.StepKind.TheVariants.{EepromTick, PhyTick
 use Rattle.access_names.specs.Targets.{memory_target_in}
 use Rattle.access_names.specs.declared.target.Target.{Target}
 use Rattle.bus.specs.declared.event.Access.{Access}
-use Rattle.eeprom_phy.specs.Image.{image_with}
-use Rattle.eeprom_phy.specs.declared.phy.Link.{Link}
+use Rattle.registers.specs.Image.{image_with}
+use Rattle.registers.specs.declared.phy.Link.{Link}
 use Rattle.rx_engine.specs.declared.arrival.Fate.{Fate}
 use Rattle.nic82540em.specs.Numbers.{fate_number, is_receive_share, kind_with, link_with, outcome_number, refused}
 use Rattle.nic82540em.specs.Events.{HearsBetween, no_events, without_first}

@@ -20,7 +20,7 @@ use access_names::Target;
 use adapter::Adapter;
 use adapter::offsets::PBA;
 use dma_memory::HostMemory;
-use eeprom_phy::{Image, Link};
+use registers::{Image, Link};
 use played_adapter::PlayedAdapter;
 use std::alloc::{AllocError, Global};
 use std::hash::{FoldHasher, Hasher};

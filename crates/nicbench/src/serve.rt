@@ -6,7 +6,7 @@ use crate::codes::{E58, E71};
 use crate::fault::Fault;
 use adapter_server::{ServeOptions, serve};
 use command_line::{ServeImage, ServeJob, ServeLink};
-use eeprom_phy::{Image, Link, WORDS};
+use registers::{Image, Link, WORDS};
 use program_files::{LateFile, player_of, read_front, record_of, store};
 use std::alloc::AllocError;
 use std::fs::File;

@@ -20,7 +20,7 @@ use bitflags::Flags;
 use command_line::PassFilter;
 use descriptors::{RX_DESC_BYTES, RxDesc, SHORTEST_LEGAL};
 use dma_memory::{HostMemory, Layout};
-use eeprom_phy::{Image, Link};
+use registers::{Image, Link};
 use std::alloc::{AllocError, Global};
 use std::marker::Model;
 

@@ -2,8 +2,8 @@
 use Rattle.std.specs.Prelude.{◌++◌, ◌∷◌, [], Bool, List, None, Option, Some, flat_map, if◌then◌else◌}
 use Rattle.adapter.specs.declared.step.StepKind.{StepKind}
 use Rattle.adapter.specs.declared.step.StepKind.TheVariants as kinds
-use Rattle.eeprom_phy.specs.Eerd.{is_pending}
-use Rattle.eeprom_phy.specs.Mdic.{has_work}
+use Rattle.registers.specs.Eerd.{is_pending}
+use Rattle.registers.specs.Mdic.{has_work}
 use Rattle.step_schedules.specs.Agendas.{AgendaState, agenda_after, coming, default_steps_held}
 use Rattle.step_schedules.specs.Waiting.{due_before}
 use Rattle.step_schedules.specs.Words.{Text}

@@ -6,8 +6,7 @@ use adapter::{Adapter, Outcome, StepKind};
 use bitflags::Flags;
 use bus::Machine;
 use dma_memory::HostMemory;
-use eeprom_phy::{Image, Link};
-use registers::Tctl;
+use registers::{Image, Link, Tctl};
 use std::test::Fail;
 
 #[test]

@@ -1,30 +1,43 @@
-//! Registers of the Intel 82540EM: CTRL, STATUS, RCTL, TCTL, PBA, interrupt causes, statistics counters, and the PCI
-//! configuration space with its I/O ports.
+//! Registers of the Intel 82540EM: CTRL, STATUS, RCTL, TCTL, PBA, interrupt causes, statistics counters, the PCI
+//! configuration space with its I/O ports, and the EEPROM and the PHY, which a driver accesses through EERD and MDIC.
 //!
 //! Section numbers are those of Intel's "PCI/PCI-X Family of Gigabit Ethernet Controllers Software Developer's Manual".
 //! The configuration space is also that of "PCI Local Bus Specification", revision 2.2. A driver or firmware accesses
-//! it through the I/O ports CONFIG_ADDRESS and CONFIG_DATA.
+//! it through the I/O ports CONFIG_ADDRESS and CONFIG_DATA. The PHY's registers are those of IEEE 802.3, clause 22. The
+//! PHY is modelled as far as it concerns the link.
 #![tactic(auto)]
 
 mod bits;
 mod config_address;
 mod config_offsets;
 mod device_control;
+mod eerd;
 mod fields;
+mod hashing;
+mod image;
 mod interrupts;
 mod laws;
+mod mdic;
 mod packet_buffer;
 mod pci_function;
+mod phy;
 mod port_width;
 mod receive_control;
 mod statistics;
 
 pub use bits::{Cause, Ctrl, Rctl, Status, Tctl};
 pub use device_control::Speed;
+pub use eerd::{Eerd, ReadState};
+pub use image::{Image, WORDS, checksum_ok};
 pub use interrupts::Causes;
-pub use laws::sets_of_places;
+pub use laws::{
+    accesses_by_history, answers_by_history, control_by_history, latch_by_history, link_by_history,
+    mdic_by_history, sets_of_places, told_by_history,
+};
+pub use mdic::{Mdic, Operation, Ticked};
 pub use packet_buffer::PacketBufferAllocation;
 pub use pci_function::PciFunction;
+pub use phy::{Link, Negotiation, Phy};
 pub use port_width::PortWidth;
 pub use receive_control::GroupOffset;
 pub use statistics::Counter;

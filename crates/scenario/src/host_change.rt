@@ -11,7 +11,7 @@ use crate::refusal::Fault;
 use crate::tick_word::host_named;
 use arrayvec::ArrayVec;
 use bring_up::Config;
-use eeprom_phy::Image;
+use registers::Image;
 use network_plan::HostPlan;
 use packet_socket::SocketKind;
 use std::alloc::{AllocError, Global};

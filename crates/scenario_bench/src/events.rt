@@ -1,6 +1,6 @@
 //! The events of a scenario's commands.
 ghost use Rattle.std.specs.Prelude.{◌≡◌, ◌<◌, ◌++◌, ◌∷◌, [], IfOk, None, OnOk, length, map};
-ghost use Rattle.eeprom_phy.specs.Image.{address_bytes};
+ghost use Rattle.registers.specs.Image.{address_bytes};
 ghost use Rattle.run_record.specs.Puts.{wire_name_of};
 ghost use Rattle.scenario.specs.SoFar.{Interrupts, Receives, Sends, Ticks, command_of_event, hosts_of};
 ghost use Rattle.scenario_bench.specs.EventLists as lists;
@@ -10,7 +10,7 @@ ghost use Rattle.stations.specs.declared.tick.Tick.TheVariants as ticks;
 use adapter::StepKind;
 use descriptors::{LONGEST_LEGAL, SHORTEST_LEGAL};
 use dma_memory::RECEIVE_BUFFER_BYTES;
-use eeprom_phy::Image;
+use registers::Image;
 use network_plan::{Event, HostPlan};
 use run_record::wire_of;
 use stations::Tick;

@@ -12,8 +12,8 @@ use Rattle.adapter.specs.declared.step.StepKind.{StepKind}
 use Rattle.adapter.specs.declared.step.StepKind.TheVariants.{TxTake, TxPut, RxData, RxDone, EepromTick, PhyTick}
 use Rattle.adapter.specs.Outcomes.{FrameOutcome}
 use Rattle.adapter.specs.declared.outcome.Outcome.TheVariants.{Put}
-use Rattle.eeprom_phy.specs.Eerd.{is_pending}
-use Rattle.eeprom_phy.specs.Mdic.{has_work}
+use Rattle.registers.specs.Eerd.{is_pending}
+use Rattle.registers.specs.Mdic.{has_work}
 use Rattle.bus.specs.TickGroups.{behind_group, group_of, without_go}
 use Rattle.bus.specs.Pasts.{Past}
 use Rattle.bus.specs.LivelyBuses.{most_accesses}

@@ -16,7 +16,7 @@ use Rattle.descriptors.specs.TxFields.{command_bits}
 use Rattle.tx_engine.specs.Fetching.{IsTransmittable, transmit_descriptor_at, fetched}
 use Rattle.tx_engine.specs.ToSend.{to_send}
 use Rattle.descriptors.specs.Frames.{IsLegal}
-use Rattle.eeprom_phy.specs.declared.phy.Link.TheVariants.{Never}
+use Rattle.registers.specs.declared.phy.Link.TheVariants.{Never}
 use Rattle.rx_engine.specs.declared.arrival.Fate.{Fate}
 use Rattle.rx_engine.specs.declared.arrival.Fate.TheVariants.{Off, Illegal, Filtered, Missed, Stored}
 use Rattle.rx_engine.specs.Passing.{AcceptsAddress, AcceptsVlan, Passes}

@@ -2,7 +2,7 @@
 -- all zeros, so each receive descriptor points to the buffer at address 0. Both rings, of eight slots each, are after this buffer.
 use Rattle.std.specs.Prelude.{◌+◌, ℕ, List, [], ◌∷◌, replicate}
 use Rattle.descriptors.specs.Frames.{shortest_frame}
-use Rattle.eeprom_phy.specs.declared.phy.Link.TheVariants.{Never}
+use Rattle.registers.specs.declared.phy.Link.TheVariants.{Never}
 use Rattle.registers.specs.Places.{alone, rctl_bam, rctl_en, tctl_en, tctl_psp}
 use Rattle.rx_engine.specs.declared.arrival.Fate.TheVariants.{Stored}
 use Rattle.adapter.specs.Registers.{filter_at_reset, new_adapter}

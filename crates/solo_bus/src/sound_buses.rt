@@ -13,7 +13,7 @@ use crate::SoloBus;
 use adapter::offsets::{RCTL, RDBAL, RDLEN, RDT, TCTL, TDBAL, TDLEN, TDT};
 use adapter::{Adapter, StepKind};
 use dma_memory::HostMemory;
-use eeprom_phy::{Image, Link};
+use registers::{Image, Link};
 use std::alloc::{AllocError, Global};
 
 /// The number of bytes of memory.

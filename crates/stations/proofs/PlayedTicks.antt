@@ -4,8 +4,8 @@ use Rattle.std.proofs.Common.{IsNone, IsTrue, ℕ, Bool, true, false, List, Opti
 use Rattle.std.proofs.Common.{slice_set}
 use Rattle.std.proofs.Common.{option_map, refl, sym, ap, subst, ◌∙◌}
 use Rattle.rx_engine.specs.declared.arrival.Fate.{Fate}
-use Rattle.eeprom_phy.specs.Eerd.{is_pending}
-use Rattle.eeprom_phy.specs.Mdic.{has_work}
+use Rattle.registers.specs.Eerd.{is_pending}
+use Rattle.registers.specs.Mdic.{has_work}
 use Rattle.adapter.specs.Outcomes.{FrameOutcome, framed, oldest_queued, put_by, with_frame}
 use Rattle.adapter.specs.State.{AdapterState, IsAdapter}
 use Rattle.adapter.specs.Steps.{Answers, ticked}

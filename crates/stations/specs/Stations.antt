@@ -1,7 +1,7 @@
 -- The states of the stations of a network, and how an event at one host changes the stations of all hosts (our choice).
 use Rattle.std.specs.Prelude.{◌≡◌, ◌≢◌, ◌<◌, ◌==◌, ◌&&◌, not, ℕ, suc, Option, Some, None, List, [], ◌∷◌, ◌++◌, drop, length, slice_get}
 use Rattle.std.specs.Prelude.{if◌then◌else◌}
-use Rattle.eeprom_phy.specs.declared.phy.Link.TheVariants.{Never}
+use Rattle.registers.specs.declared.phy.Link.TheVariants.{Never}
 use Rattle.adapter.specs.Registers.{new_adapter}
 use Rattle.adapter.specs.World.{World}
 use Rattle.bus.specs.Trails.{past_of_event, world_after}

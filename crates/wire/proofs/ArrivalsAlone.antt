@@ -1,6 +1,6 @@
 -- Over a lively bus no frame arrives, and the adapter changes only by accesses and by ticks of its EEPROM and PHY.
 use Rattle.std.proofs.Common.{◌++◌, ◌∷◌, [], All, ℕ, List, refl, sym, ap, subst, ◌∙◌, arith}
-use Rattle.eeprom_phy.specs.declared.phy.Link.{Link}
+use Rattle.registers.specs.declared.phy.Link.{Link}
 use Rattle.adapter.specs.Outcomes.{FrameOutcome}
 use Rattle.adapter.specs.World.{World}
 use Rattle.adapter.specs.declared.step.StepKind.{StepKind}

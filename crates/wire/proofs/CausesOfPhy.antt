@@ -3,8 +3,8 @@
 use Rattle.std.specs.Prelude.{bit_and, nat_lt}
 use Rattle.std.proofs.Common.{◌≡◌, ◌||◌, ◌∷◌, [], ◌∙◌, Bool, true, false, ℕ, List, Option, Some, None, if◌then◌else◌, ap, refl, sym, subst}
 use Rattle.std.specs.List.{All}
-use Rattle.eeprom_phy.specs.declared.mdic.Ticked.{Ticked}
-use Rattle.eeprom_phy.specs.Mdic.{told}
+use Rattle.registers.specs.declared.mdic.Ticked.{Ticked}
+use Rattle.registers.specs.Mdic.{told}
 use Rattle.registers.specs.Bits.{union}
 use Rattle.adapter.specs.Registers.{after_reset, by_row, by_rule, is_reset, left_by_read, left_by_write, with_register}
 use Rattle.adapter.specs.State.{AdapterState}

@@ -9,10 +9,10 @@ use Rattle.descriptors.specs.Ring.{HasValidIndices, count_of}
 use Rattle.descriptors.specs.declared.ring.Ring.{Ring}
 use Rattle.registers.specs.Bits.{HasBit}
 use Rattle.registers.specs.Places.{tctl_en}
-use Rattle.eeprom_phy.specs.Image.{HasRightSum, address_bytes}
-use Rattle.eeprom_phy.specs.declared.phy.Link.{Link}
-use Rattle.eeprom_phy.specs.declared.phy.Link.TheVariants.{Never}
-use Rattle.eeprom_phy.specs.Phy.{PhyState, is_complete, link_is_up}
+use Rattle.registers.specs.Image.{HasRightSum, address_bytes}
+use Rattle.registers.specs.declared.phy.Link.{Link}
+use Rattle.registers.specs.declared.phy.Link.TheVariants.{Never}
+use Rattle.registers.specs.Phy.{PhyState, is_complete, link_is_up}
 use Rattle.rx_engine.specs.Addresses.{IsAddress}
 use Rattle.adapter.specs.Registers.{new_adapter}
 use Rattle.adapter.specs.State.{AdapterState, IsAdapter}

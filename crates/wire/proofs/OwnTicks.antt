@@ -2,16 +2,16 @@
 -- GPTC.
 use Rattle.std.specs.Prelude.{bit_and}
 use Rattle.std.proofs.Common.{◌≡◌, ◌==◌, ◌&&◌, Bool, true, false, ℕ, Option, Some, None, if◌then◌else◌, ap, refl, ◌∙◌}
-use Rattle.eeprom_phy.specs.declared.mdic.Operation.{Operation}
-use Rattle.eeprom_phy.specs.declared.mdic.Operation.TheVariants.{Read, Write}
-use Rattle.eeprom_phy.specs.declared.mdic.Ticked.{Ticked}
-use Rattle.eeprom_phy.specs.declared.phy.Link.{Link}
-use Rattle.eeprom_phy.specs.declared.phy.Link.TheVariants.{Never}
-use Rattle.eeprom_phy.specs.declared.phy.Negotiation.{Negotiation}
-use Rattle.eeprom_phy.specs.declared.phy.Negotiation.TheVariants.{NotStarted}
-use Rattle.eeprom_phy.specs.Mdic.{data_bits, phy_ended, reaches_phy, regadd, told}
-use Rattle.eeprom_phy.specs.Phy.{PhyState, after_control, phy_after_read, after_tick, phy_after_write, counted_down, negotiation_of, new_phy, restarted}
-use Rattle.eeprom_phy.specs.Places.{control_enable, control_reset, control_restart}
+use Rattle.registers.specs.declared.mdic.Operation.{Operation}
+use Rattle.registers.specs.declared.mdic.Operation.TheVariants.{Read, Write}
+use Rattle.registers.specs.declared.mdic.Ticked.{Ticked}
+use Rattle.registers.specs.declared.phy.Link.{Link}
+use Rattle.registers.specs.declared.phy.Link.TheVariants.{Never}
+use Rattle.registers.specs.declared.phy.Negotiation.{Negotiation}
+use Rattle.registers.specs.declared.phy.Negotiation.TheVariants.{NotStarted}
+use Rattle.registers.specs.Mdic.{data_bits, phy_ended, reaches_phy, regadd, told}
+use Rattle.registers.specs.Phy.{PhyState, after_control, phy_after_read, after_tick, phy_after_write, counted_down, negotiation_of, new_phy, restarted}
+use Rattle.registers.specs.PhyPlaces.{control_enable, control_reset, control_restart}
 use Rattle.registers.specs.Bits.{is_set}
 use Rattle.adapter.specs.Registers.{after_reset, by_row, by_rule, is_reset, left_by_read, left_by_write, with_register}
 use Rattle.adapter.specs.State.{AdapterState}

@@ -1,7 +1,7 @@
 -- The filter of the registers after initialization has the sets and modes of the plan's filter.
 use Rattle.std.proofs.Common.{◌≡◌, ◌+◌, ◌↔◌, ◌∷◌, Bool, true, false, ℕ, List, replicate, refl, sym, subst, inl, inr, arith, rules}
 use Rattle.std.proofs.lemmas.List.{length-replicate}
-use Rattle.eeprom_phy.specs.Image.{address_bytes}
+use Rattle.registers.specs.Image.{address_bytes}
 use Rattle.registers.specs.Bits.{HasBit, field}
 use Rattle.registers.specs.Places.{alone, rah_av, rctl_bam, rctl_en, rctl_mo, rctl_mpe, rctl_upe, rctl_vfe}
 use Rattle.registers.specs.ReceiveControl.{group_offset_of, shift_of}

@@ -1,7 +1,7 @@
 -- The receive filter of a plan (3.2.1 "Packet Address Filtering" and chapter 9, "802.1q VLAN Support").
 use Rattle.std.specs.Prelude.{⊤, ◌≡◌, false, true}
 use Rattle.std.specs.List.{Contains}
-use Rattle.eeprom_phy.specs.Image.{address_bytes}
+use Rattle.registers.specs.Image.{address_bytes}
 use Rattle.registers.specs.ReceiveControl.{shift_of}
 use Rattle.registers.specs.declared.receive_control.GroupOffset.TheVariants.{Bits47To36}
 use Rattle.rx_engine.specs.FilterLaws.{SameSets}

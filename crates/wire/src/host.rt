@@ -2,7 +2,7 @@
 
 ghost use Rattle.std.specs.Prelude.{◌≡◌, ◌≤◌, [], ℕ, IfErr, IfOk, length};
 ghost use Rattle.adapter.specs.Registers.{new_adapter};
-ghost use Rattle.eeprom_phy.specs.Image.{address_bytes};
+ghost use Rattle.registers.specs.Image.{address_bytes};
 ghost use Rattle.rx_engine.specs.Addresses.{IsAddress};
 ghost use Rattle.bring_up.specs.Configuration.{configured_counts};
 ghost use Rattle.dma_memory.specs.Layout.{size_of};
@@ -14,7 +14,7 @@ use arrayvec::ArrayVec;
 use bring_up::InitError;
 use bus::{LivelyBus, Machine};
 use dma_memory::HostMemory;
-use eeprom_phy::Image;
+use registers::Image;
 use network_plan::{HostPlan, MOST_SOCKETS};
 use packet_socket::{Host, SocketKind};
 use std::alloc::Global;

@@ -8,7 +8,7 @@ use bring_up::Config;
 use bus::{Bus, Machine};
 use dma_memory::HostMemory;
 use driver::Handled;
-use eeprom_phy::{Image, Link};
+use registers::{Image, Link};
 use network_plan::{HostPlan, Plan, PlanError};
 use scenario::Scenario;
 use stations::{LentBus, Outcomes, Stations, Tick};

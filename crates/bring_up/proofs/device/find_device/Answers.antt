@@ -1,7 +1,7 @@
 use Rattle.std.proofs.Common.{⊎_elim, ◌≡◌, ◌++◌, ℕ, List, Result, Err, length-append, sym, ap, subst, ◌∙◌, arith}
 use Rattle.std.proofs.lemmas.Bool.{false≢true}
 use Rattle.std.proofs.lemmas.Result.{err_from_is_err_and}
-use Rattle.eeprom_phy.specs.Image.{HasRightSum}
+use Rattle.registers.specs.Image.{HasRightSum}
 use Rattle.bus.specs.Pasts.{joined}
 use Rattle.bring_up.specs.Device.{FindsDevice}
 use Rattle.bring_up.specs.Link.{NeedsMoreThan}

@@ -4,7 +4,7 @@ use Rattle.dma_memory.specs.LayoutLaws.{place-below_size}
 use Rattle.bus.proofs.Keeping.{keeps-on}
 use Rattle.bus.specs.Pasts.{joined}
 use Rattle.bring_up.specs.Configuration.{configured_counts, vlans_of}
-use Rattle.eeprom_phy.specs.Image.{address_bytes}
+use Rattle.registers.specs.Image.{address_bytes}
 use Rattle.bring_up.specs.RestingRings.{HasNewRings, HasReceiveRing, SetsAtRest}
 use Rattle.bring_up.specs.RingRegisters.{ring_setup_writes}
 use Rattle.bring_up.specs.declared.ring_registers.RingPlace.{RingPlace}

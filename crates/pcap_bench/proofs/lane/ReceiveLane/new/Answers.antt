@@ -1,6 +1,6 @@
 use Rattle.std.proofs.Common.{◌≡◌, ◌&&◌, List, ℕ, refl, sym, ap, subst, ◌∙◌, arith}
 use Rattle.std.specs.Prelude.{is_none, is_some}
-use Rattle.eeprom_phy.specs.declared.phy.Link.TheVariants.{Never}
+use Rattle.registers.specs.declared.phy.Link.TheVariants.{Never}
 use Rattle.rx_engine.specs.FilterLaws.{SameSets}
 use Rattle.rx_engine.specs.Registers.{filter_of}
 use Rattle.adapter.specs.Registers.{after_write, filter_at_reset, new_adapter}

@@ -1,5 +1,0 @@
-use Rattle.eeprom_phy.specs.MdicLaws.{accesses_by_history}
-use Rattle.eeprom_phy.proofs.laws.accesses_by_history.Goals as goal
-
-pub returns : goal.returns
-returns c = accesses_by_history

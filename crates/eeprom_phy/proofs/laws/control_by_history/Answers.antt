@@ -1,5 +1,0 @@
-use Rattle.eeprom_phy.specs.PhyLaws.{control_by_history}
-use Rattle.eeprom_phy.proofs.laws.control_by_history.Goals as goal
-
-pub returns : goal.returns
-returns c = control_by_history

@@ -1,5 +1,0 @@
-use Rattle.eeprom_phy.specs.PhyLaws.{latch_by_history}
-use Rattle.eeprom_phy.proofs.laws.latch_by_history.Goals as goal
-
-pub returns : goal.returns
-returns c = latch_by_history

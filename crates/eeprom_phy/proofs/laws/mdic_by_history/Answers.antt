@@ -1,5 +1,0 @@
-use Rattle.eeprom_phy.specs.MdicLaws.{mdic_by_history}
-use Rattle.eeprom_phy.proofs.laws.mdic_by_history.Goals as goal
-
-pub returns : goal.returns
-returns c = mdic_by_history
