@@ -3,7 +3,8 @@
 ghost use Rattle.std.specs.Prelude.{◌≡◌, Some, None, if◌then◌else◌};
 ghost use Rattle.adapter.specs.Rings.{ring_answer};
 ghost use Rattle.adapter.specs.Table.{row_of};
-ghost use Rattle.access_names.specs.Rings.{has_valid_indices, register_of, registers_of_ring, ring_from, ring_of_engine};
+ghost use Rattle.access_names.specs.Rings.{has_valid_indices, register_of, registers_of_ring};
+ghost use Rattle.access_names.specs.Rings.{ring_from, ring_of_engine};
 
 use crate::engine_fault::Engine;
 use adapter::RingRegister;

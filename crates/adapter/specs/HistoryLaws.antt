@@ -264,7 +264,8 @@ plain-not_pba register kept plain same =
     cc
 
 -- The state after a reset event is the state of `after_reset`.
-pub reset-event : (event : AdapterEvent) (state : AdapterState) → is_reset_event event ≡ true → adapter_after event state ≡ after_reset state
+pub reset-event : (event : AdapterEvent) (state : AdapterState) → is_reset_event event ≡ true
+    → adapter_after event state ≡ after_reset state
 reset-event (Read offset) state resets = absurd (false≢true resets)
 reset-event (Step kind answer memory) state resets = absurd (false≢true resets)
 reset-event (Arrive fate frame) state resets = absurd (false≢true resets)

@@ -109,7 +109,7 @@ impl Adapter {
         ensures adapter { IsAdapter self.new }
     {
         let answer = self.read_register(Register::at(offset));
-        // A law, for the proof of `adapter`: the EEPROM has 64 words.
+        // For the proof of `adapter`: this use of the field shows that the EEPROM has 64 words.
         let _ = &self.image;
         answer
     }
@@ -120,7 +120,7 @@ impl Adapter {
         ensures answer { result ≡ answer_at offset self.now }
         ensures adapter { IsAdapter self.now }
     {
-        // A law, for the proof of `adapter`: the EEPROM has 64 words.
+        // For the proof of `adapter`: this use of the field shows that the EEPROM has 64 words.
         let _ = &self.image;
         self.value_of(Register::at(offset))
     }
@@ -133,7 +133,7 @@ impl Adapter {
         ensures adapter { IsAdapter self.new }
     {
         self.write_register(Register::at(offset), value);
-        // A law, for the proof of `adapter`: the EEPROM has 64 words.
+        // For the proof of `adapter`: this use of the field shows that the EEPROM has 64 words.
         let _ = &self.image;
     }
 

@@ -12,7 +12,8 @@ use Rattle.adapter_plants.specs.OneFate.{one_fate}
 use Rattle.bus.specs.declared.event.Event.{Event}
 use Rattle.bus.specs.declared.event.Event.TheVariants.{Accesses, Arrives, Steps}
 use Rattle.rx_engine.specs.declared.arrival.Fate.{Fate}
-use Rattle.stations.specs.AtomicSteps.{AtomicStep, At, CanHappen, FindsNothing, Idles, IsNoAccess, OccursAt, PlaysTick, after_atomic, step_outcome}
+use Rattle.stations.specs.AtomicSteps.{AtomicStep, At, CanHappen, FindsNothing, Idles}
+use Rattle.stations.specs.AtomicSteps.{IsNoAccess, OccursAt, PlaysTick, after_atomic, step_outcome}
 use Rattle.stations.specs.AtomicSteps.{outcome_of_event, tick_of, tick_of_event}
 use Rattle.stations.specs.Stations.{StationState, WireHasRoom, all_after, at_each, backlog_at, each_after, stations_after, wire_of}
 use Rattle.stations.specs.Stations.{world_at}

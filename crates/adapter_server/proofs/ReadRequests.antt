@@ -18,7 +18,8 @@ not_both request refusal e = cc
 same_refusal : (one two : Refusal) → refused one ≡ refused two → one ≡ two
 same_refusal one two e = cc
 
-pub answers_read : (line : Text) (request : Request) (a b : Server) (text : Text) → IsRequestRead line (Ok request) → Does request line a b text
+pub answers_read : (line : Text) (request : Request) (a b : Server) (text : Text) → IsRequestRead line (Ok request)
+    → Does request line a b text
     → AnswersLine line a b text
 answers_read line request a b text read obeys = record {
   asked = λ is. subst (λ (asked : Result Request Refusal). AnswersTo asked line a b text) (sym (read.text is)) obeys;

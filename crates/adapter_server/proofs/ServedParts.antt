@@ -100,7 +100,8 @@ answering_stopped (Ok value) cause Done Front stopped = absurd stopped
 answering_stopped (Err error) cause Done Front stopped = (tt, λ read. absurd (never_read cause (sym stopped ∙ read)))
 
 pub answer_sent : {T E S : Type 0} (result : Result T E) (Answers : S → Text → Type 0) (b : S)
-    (before after sent : Option (List ℕ)) → WritesText before after (Answers b) → Keeps after sent → TellsAnswer result before sent Answers b
+    (before after sent : Option (List ℕ)) → WritesText before after (Answers b) → Keeps after sent
+    → TellsAnswer result before sent Answers b
 answer_sent (Ok value) Answers b before after sent told kept = tells_sent before after sent (Answers b) told kept
 answer_sent (Err error) Answers b before after sent told kept =
     part_whole (Reaches Answers) before sent

@@ -72,7 +72,8 @@ reads Memory address wanted said a b text does =
     let plays = after.goes_on in
     let access = Loads address (wanted_size wanted) in (
       plays.0,
-      again _ (AfterMoves (moves_before access a) (ServesLoad address (wanted_size wanted) plays.0)) said (met_before access a) b does.0 _ text
+      again _ (AfterMoves (moves_before access a) (ServesLoad address (wanted_size wanted) plays.0)) said (met_before access a) b does.0 _
+          text
           does.1 plays.1 (after_so (ServesLoad address (wanted_size wanted) plays.0) _ _ _ _ after plays.2),
     )
 

@@ -137,5 +137,6 @@ AnswersAfter moves wanted task said a b text = (line : Text)
 -- The player, if there is one, meets a task, unless the task sets the clock. Then the task is played and answered.
 abbrev pub Performs : Task → (said : Text) → Session → Session → Text → Type 0
 Performs task said a b text =
-    AnswersAfter (task_moves task a.device a.agenda) (task_wanted task a.device.machine.world.adapter a.agenda) task said (task_met task a) b
+    AnswersAfter (task_moves task a.device a.agenda) (task_wanted task a.device.machine.world.adapter a.agenda) task said
+    (task_met task a) b
     text

@@ -1,7 +1,7 @@
 //! Serves an adapter and its memory over a line protocol: reads requests line by line, and answers each.
 //!
-//! The crate `server_requests` reads requests, and defines the protocol. The only function is [`serve`]. Section numbers
-//! are those of Intel's "PCI/PCI-X Family of Gigabit Ethernet Controllers Software Developer's Manual".
+//! The crate `server_requests` reads requests, and defines the protocol. The only function is [`serve`]. Section
+//! numbers are those of Intel's "PCI/PCI-X Family of Gigabit Ethernet Controllers Software Developer's Manual".
 #![tactic(auto)]
 
 mod access;

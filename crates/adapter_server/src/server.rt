@@ -55,6 +55,7 @@ fn serve_lines<R: BufRead, W: Write>(
         }
         answer_and_send(server, alloc, output, next, line.as_slice())?;
     }
+    // 2^64 - 1 lines were served, and the rest of the input wasn't read.
     Err(ServeError::Read)
 }
 

@@ -80,7 +80,8 @@ between_padded o p a in_ring differ sound =
       untouched = λ area apart. refl;
       foreign = λ area apart.
           subst (λ (slots : List ℕ). All (AreApart area)
-          (map reported_half (slots_in_work a ++ offered (receive_ring a)) ++ (map status_byte slots ++ offered_buffers a))) (sym same) apart;
+          (map reported_half (slots_in_work a ++ offered (receive_ring a)) ++ (map status_byte slots ++ offered_buffers a))) (sym same)
+          apart;
       runs = λ can. record {
         receiver_runs = can.receiver_runs;
         transmitter_runs = can.transmitter_runs;

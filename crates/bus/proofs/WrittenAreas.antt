@@ -22,7 +22,8 @@ use Rattle.tx_engine.specs.Fetching as transmit
 use Rattle.tx_engine.specs.Fetching.{as_sent, fetched, frame_at}
 use Rattle.tx_engine.specs.ToSend.{to_send}
 use Rattle.tx_engine.specs.Transmitter.{Queued}
-use Rattle.adapter.specs.Slots.{buffered, done_slots, finished, slots_in_work, is_done, IsDealt, offered, outstanding, slot_of_work, written_back_slots}
+use Rattle.adapter.specs.Slots.{buffered, done_slots, finished, slots_in_work, is_done}
+use Rattle.adapter.specs.Slots.{IsDealt, offered, outstanding, slot_of_work, written_back_slots}
 use Rattle.adapter.specs.HostAreas.{data_of, ring_area, work_areas}
 use Rattle.adapter.specs.HostFrames.{finished_pieces, frames_held, frames_to_send, named, piece_in, pieces_in_slots}
 use Rattle.adapter.specs.Conditions.{AreCut, FitBuffers}

@@ -1,5 +1,5 @@
-//! The bus between a driver and its adapter, the bus law, the laws of a driver's actions, and a machine: an adapter with
-//! its host's memory.
+//! The bus between a driver and its adapter, the bus law, the laws of a driver's actions, and a machine: an adapter
+//! with its host's memory.
 //!
 //! The laws of a driver's actions use what a driver knows of its adapter and memory, and what happens in an interval of
 //! its run. A law is a function with an empty body, and its clauses are theorems. A law's attribute `tactic` states the

@@ -8,7 +8,8 @@ use Rattle.descriptors.specs.declared.queue.FrameQueue.TheInside.{Inside}
 -- The frames of these lengths, each at the start of its own place, from this place on.
 unfoldable pub placed_frames : List ℕ → ℕ → ℕ → List ℕ → List (List ℕ)
 placed_frames bytes capacity place [] = []
-placed_frames bytes capacity place (n ∷ ns) = take n (drop (wrapped capacity place * 1518) bytes) ∷ placed_frames bytes capacity (place + 1) ns
+placed_frames bytes capacity place (n ∷ ns) =
+    take n (drop (wrapped capacity place * 1518) bytes) ∷ placed_frames bytes capacity (place + 1) ns
 
 -- The plain data of a queue with these fields.
 abbrev pub queue_of_places : Inside → Frames

@@ -36,14 +36,16 @@ places-apart counts ReceiveRing (ReceiveBuffer number) has_a has_b differ = let 
 places-apart counts TransmitRing ReceiveRing has_a has_b differ = inr (omega arith)
 places-apart counts TransmitRing TransmitRing has_a has_b differ = absurd (differ refl)
 places-apart counts TransmitRing (TransmitBuffer slot) has_a has_b differ = let b = (layout_begins counts).behind_rings in inl (omega arith)
-places-apart counts TransmitRing (ReceiveBuffer number) has_a has_b differ = let b = (layout_begins counts).behind_rings in inl (omega arith)
+places-apart counts TransmitRing (ReceiveBuffer number) has_a has_b differ =
+    let b = (layout_begins counts).behind_rings in inl (omega arith)
 places-apart counts (TransmitBuffer slot) ReceiveRing has_a has_b differ = let b = (layout_begins counts).behind_rings in inr (omega arith)
 places-apart counts (TransmitBuffer slot) TransmitRing has_a has_b differ = let b = (layout_begins counts).behind_rings in inr (omega arith)
 places-apart counts (TransmitBuffer slot) (TransmitBuffer other) has_a has_b differ = transmit_apart (buffers_start counts) slot other
     (λ same. differ (ap TransmitBuffer same))
 places-apart counts (TransmitBuffer slot) (ReceiveBuffer number) has_a has_b differ = inl (omega arith)
 places-apart counts (ReceiveBuffer number) ReceiveRing has_a has_b differ = let b = (layout_begins counts).behind_rings in inr (omega arith)
-places-apart counts (ReceiveBuffer number) TransmitRing has_a has_b differ = let b = (layout_begins counts).behind_rings in inr (omega arith)
+places-apart counts (ReceiveBuffer number) TransmitRing has_a has_b differ =
+    let b = (layout_begins counts).behind_rings in inr (omega arith)
 places-apart counts (ReceiveBuffer number) (TransmitBuffer slot) has_a has_b differ = inr (omega arith)
 places-apart counts (ReceiveBuffer number) (ReceiveBuffer other) has_a has_b differ = receive_apart
     (buffers_start counts + 2048 * counts.tx) number other (λ same. differ (ap ReceiveBuffer same))

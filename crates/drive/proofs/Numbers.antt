@@ -11,7 +11,8 @@ pub number_after-append : (n : ℕ) (xs ys : List (List ℕ)) → number_after n
 number_after-append n [] ys = refl
 number_after-append n (x ∷ xs) ys = number_after-append (next_frame_number n) xs ys
 
-numbered-append : (n : ℕ) (xs ys : List (List ℕ)) → timed_by_number n (xs ++ ys) ≡ timed_by_number n xs ++ timed_by_number (number_after n xs) ys
+numbered-append : (n : ℕ) (xs ys : List (List ℕ))
+    → timed_by_number n (xs ++ ys) ≡ timed_by_number n xs ++ timed_by_number (number_after n xs) ys
 numbered-append n [] ys = refl
 numbered-append n (x ∷ xs) ys = ap (λ (later : List Timed). record { time = n; frame = x } ∷ later) (numbered-append
     (next_frame_number n) xs ys)

@@ -1,8 +1,8 @@
 //! The loop of `nicbench drive`, which sends the frames of a trace and receives frames, and its bus to an adapter in
 //! another program.
 //!
-//! The bus writes requests of QEMU's qtest protocol, and reads their answers, one on each line. The program may be QEMU,
-//! `nicbench serve`, or any other program that answers `readl`, `writel`, `read` and `write`.
+//! The bus writes requests of QEMU's qtest protocol, and reads their answers, one on each line. The program may be
+//! QEMU, `nicbench serve`, or any other program that answers `readl`, `writel`, `read` and `write`.
 #![tactic(auto)]
 
 mod bus_fault;

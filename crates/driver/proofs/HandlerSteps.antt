@@ -27,7 +27,8 @@ use Rattle.bus.specs.Calls.{frames_ended, held_at, in_world_of, only}
 use Rattle.bus.specs.Calls.{receive_loads, stores_from, tail_write, takes_from, missed_added}
 use Rattle.bus.specs.DriverState.{DriverState, HandedOut, frame_of, holding, next_receive, piece_numbers, with_owners}
 use Rattle.bus.specs.ReadyDrivers.{ReadyWith}
-use Rattle.driver.specs.HandlerSteps.{HandlesIt, IsLook, Scene, TakesAll, Works, held_in, moment, offering_accesses, taking_accesses}
+use Rattle.driver.specs.HandlerSteps.{HandlesIt, Scene, TakesAll, Works, held_in, moment, offering_accesses, taking_accesses}
+use Rattle.driver.specs.Looks.{IsLook}
 use Rattle.driver.specs.Parts.{joined_frames, pieces_of}
 use Rattle.driver.specs.RefillSteps.{Refills}
 use Rattle.driver.specs.declared.receiver.Receiver.{Ghosts as OfReceiver}

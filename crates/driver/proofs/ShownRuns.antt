@@ -16,7 +16,7 @@ use Rattle.bus.proofs.Owners.{all-copies, owners-count}
 use Rattle.bus.specs.Calls.{OffersAll, missed_added}
 use Rattle.bus.specs.DriverState.{DriverState, HandedOut, holding, piece_numbers, owners, with_owners}
 use Rattle.driver.specs.Answers.{ReceiverAnswers}
-use Rattle.driver.specs.GrowsLaws.{grows-join}
+use Rattle.driver.specs.Growth.{grows-join}
 use Rattle.driver.specs.HandlerSteps.{
   GrowsBy,
   PassesOn,

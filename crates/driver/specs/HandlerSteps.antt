@@ -10,9 +10,7 @@ use Rattle.dma_memory.specs.Owners.{HasNoSecondOwner, HaveSameNumbers}
 use Rattle.descriptors.specs.Frames.{longest_frame}
 use Rattle.rx_engine.specs.Addresses.{ether_type}
 use Rattle.descriptors.specs.RingLaws.{place}
-use Rattle.rx_engine.specs.Pieces.{frames_of}
 use Rattle.adapter.specs.HostFrames.{finished_pieces}
-use Rattle.adapter.specs.World.{World}
 use Rattle.bus.specs.declared.bus.Bus.{Ghosts}
 use Rattle.bus.specs.declared.event.Access.{Access}
 use Rattle.bus.specs.declared.event.Access.TheVariants.{Reads}
@@ -32,6 +30,8 @@ use Rattle.driver.specs.declared.receiver.Receiver.{Ghosts as OfReceiver}
 use Rattle.adapter.specs.declared.offsets.TheConstants.{MPC}
 use Rattle.registers.specs.Bits.{HasBit, Meet}
 use Rattle.registers.specs.Places.{rxt0}
+use Rattle.driver.specs.Growth.{GrowsBy}
+use Rattle.driver.specs.Looks.{IsLook}
 use Rattle.bus.specs.Pasts.{Past, joined}
 use Rattle.bring_up.specs.WrittenRegisters.{handled_causes}
 use Rattle.driver.specs.declared.interrupt.Handled.{Handled}
@@ -45,19 +45,6 @@ pub data IsSublist {X : Type 0} : List X → List X → Type 0 where
   part_none : IsSublist [] []
   part_with : {one : X} {some all : List X} → IsSublist some all → IsSublist (one ∷ some) (one ∷ all)
   part_without : {one : X} {some all : List X} → IsSublist some all → IsSublist some (one ∷ all)
-
--- The driver's count of bad runs and a host's count of unclaimed frames have 64 bits, so they are below this number (our choice).
-abbrev pub count_limit : ℕ
-count_limit = 2 ^ 64
-
--- A count grew from `before` to `after`: by `more`, or by at most `more` if `after` is the greatest u64.
-pub record GrowsBy (before after more : ℕ) : Type 0 where
-  -- the count didn't decrease
-  pub least : before ≤ after
-  -- the count grew by at most `more`
-  pub most : after ≤ before + more
-  -- if `after` is below the greatest u64, the count grew by exactly `more`
-  pub exactly : after < count_limit - 1 → after ≡ before + more
 
 -- A receiver was shown the frame `received`. If the receiver kept the frame, the pool has the same numbers. Otherwise the frame's buffers
 -- were added to the pool.
@@ -310,16 +297,6 @@ taking_accesses d misses taken loads =
 -- The handler's last accesses: slots with the buffers `offered` are staged, and `tail` is written to RDT if any slot is staged.
 abbrev pub offering_accesses : DriverState → (offered : List ℕ) → (tail : ℕ) → List Access
 offering_accesses d offered tail = stores_from d.layout (next_receive d) offered ++ tail_write tail (d.staged ++ offered)
-
--- The last look at slots, in the world between its last load and the next access. `oldest` is the place of the oldest slot, and `rest` are
--- the buffers of the outstanding slots. The look loads descriptors up to that of the first slot that isn't finished.
-pub record IsLook (oldest : ℕ) (rest : List ℕ) (world : World) (loads : ℕ) : Type 0 where
-  -- no frame ends in finished slots
-  pub none_left : frames_of (finished_pieces oldest world) ≡ []
-  -- The number of finished slots, times the size of a receive buffer, is at most the longest frame's size: at most five slots.
-  pub short : receive_buffer_bytes * length (finished_pieces oldest world) ≤ longest_frame
-  -- the number of loads is the number of finished slots, plus one if there is a next outstanding slot
-  pub loads_are : loads ≡ min (suc (length (finished_pieces oldest world))) (length rest)
 
 -- An interval is split at a point: the accesses `first` were made before this point, and the accesses `later` after it.
 pub record IsSplit {B : Type 0} {bus : Ghosts B} {up : Bool} {did : Did} {old new : Moment B} (ran : Ran bus up did old new)

@@ -5,7 +5,7 @@ pub mod Parts
 pub mod Answers
 pub mod Looks
 pub mod HandlerSteps
-pub mod GrowsLaws
+pub mod Growth
 pub mod InsideSetup
 pub mod Initialisation
 pub mod Resetting

@@ -1,5 +1,5 @@
 -- What a driver finds in its oldest receive slots by loading their descriptors.
-use Rattle.std.specs.Prelude.{◌≡◌, ◌≤◌, ◌+◌, ◌++◌, ◌∷◌, []}
+use Rattle.std.specs.Prelude.{◌≡◌, ◌≤◌, ◌+◌, ◌*◌, ◌++◌, ◌∷◌, []}
 use Rattle.std.specs.Prelude.{ℕ, Bool, true, false, IsTrue, List, None, Option, Some, length, map, min, replicate}
 use Rattle.std.specs.Prelude.{suc, sum, take}
 use Rattle.std.specs.List.{concat}
@@ -7,9 +7,11 @@ use Rattle.dma_memory.specs.Layout.{receive_buffer_bytes}
 use Rattle.registers.specs.Bits.{is_set}
 use Rattle.descriptors.specs.RxStatus.{eop, status_bits}
 use Rattle.descriptors.specs.declared.rx_desc.RxDesc.{RxDesc}
-use Rattle.rx_engine.specs.Pieces.{IsLastSize, Piece, parts}
+use Rattle.descriptors.specs.Frames.{longest_frame}
+use Rattle.rx_engine.specs.Pieces.{IsLastSize, Piece, frames_of, parts}
 use Rattle.rx_engine.specs.Pieces.Piece.{Last}
 use Rattle.adapter.specs.HostFrames.{finished_pieces}
+use Rattle.adapter.specs.World.{World}
 use Rattle.bus.specs.declared.bus.Bus.{Ghosts}
 use Rattle.bus.specs.Calls.{Moment, Ran, frames_ended, in_world_of, only, receive_loads}
 use Rattle.bus.specs.OldestSlot.{LooksAtSlot}
@@ -85,3 +87,13 @@ pub record FindsFrame {B : Type 0} (bus : Ghosts B) (run : Run) (up : Bool) (old
 abbrev pub LooksAt : {B : Type 0} → Ghosts B → Option Run → (up : Bool) → (old new : Moment B) → Type 0
 LooksAt bus None = FindsNoFrame bus
 LooksAt bus (Some run) = FindsFrame bus run
+
+-- The last look at slots, in the world between its last load and the next access. `oldest` is the place of the oldest slot, and `rest` are
+-- the buffers of the outstanding slots. The look loads descriptors up to that of the first slot that isn't finished.
+pub record IsLook (oldest : ℕ) (rest : List ℕ) (world : World) (loads : ℕ) : Type 0 where
+  -- no frame ends in finished slots
+  pub none_left : frames_of (finished_pieces oldest world) ≡ []
+  -- The number of finished slots, times the size of a receive buffer, is at most the longest frame's size: at most five slots.
+  pub short : receive_buffer_bytes * length (finished_pieces oldest world) ≤ longest_frame
+  -- the number of loads is the number of finished slots, plus one if there is a next outstanding slot
+  pub loads_are : loads ≡ min (suc (length (finished_pieces oldest world))) (length rest)

@@ -116,9 +116,9 @@ impl Driver {
     }
 
     /// Looks at the oldest outstanding slots, each by one load of its descriptor, up to and including the first slot
-    /// with EOP. Returns these slots, or six slots without EOP. Returns `None` if the call first reaches a slot that
-    /// isn't finished or isn't outstanding. DD, EOP and the length of a slot come from the same load. No slot is
-    /// taken.
+    /// with EOP. Returns these slots, or six slots without EOP. Six slots without EOP aren't a whole frame, because a
+    /// frame has at most six pieces. Returns `None` if the call first reaches a slot that isn't finished or isn't
+    /// outstanding. DD, EOP and the length of a slot come from the same load. No slot is taken.
     pub(crate) fn look<B: Bus>(&self, bus: &mut B) -> Option<Run>
         requires memory { size_of self.now.layout ≤ B.extent bus.old }
         ensures keeps { Keeps B.Bus bus.old bus.new }

@@ -5,8 +5,8 @@ use arrayvec::ArrayVec;
 use bring_up::{Config, InitError};
 use bus::Bus;
 use dma_memory::HostMemory;
-use registers::{Image, Link};
 use packet_socket::{Host, SocketKind};
+use registers::{Image, Link};
 use solo_bus::SoloBus;
 use std::alloc::{AllocError, Global};
 

@@ -27,7 +27,8 @@ pub record FirstAccess (caller : ℕ) (steps : List AtomicStep) (a : List Statio
   pub answered : IsAnswered access (world_at middle caller)
 
 behind-tick : (caller : ℕ) (step : AtomicStep) (steps : List AtomicStep) (a : List StationState) (access : Access) → IsTick step
-    → CanHappen step a → IsOfCall caller step → FirstAccess caller steps (after_atomic step a) access → FirstAccess caller (step ∷ steps) a access
+    → CanHappen step a → IsOfCall caller step → FirstAccess caller steps (after_atomic step a) access
+    → FirstAccess caller (step ∷ steps) a access
 behind-tick caller step steps a access is happens of_call first = record {
   early = step ∷ first.early;
   later = first.later;

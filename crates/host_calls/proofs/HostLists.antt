@@ -106,7 +106,8 @@ by-events f g caller k [] a b leads each = refl
 by-events {X} f g caller k (At host event ∷ later) a b leads each =
     flat_map-append f (outcome_happenings host (outcome_of_event event)) (happened_in later)
     ∙ ap (λ (front : List X). front ++ flat_map f (happened_in later)) (each host event (world_at a host) leads.0.occurs)
-    ∙ ap (λ (behind : List X). of_host k host (g event) ++ behind) (by-events f g caller k later (after_atomic (At host event) a) b leads.2 each)
+    ∙ ap (λ (behind : List X). of_host k host (g event) ++ behind)
+    (by-events f g caller k later (after_atomic (At host event) a) b leads.2 each)
     ∙ sym (chosen-more g (k == host) event (events_at k later))
 by-events f g caller k (Idles tick ∷ later) a b leads each = by-events f g caller k later a b leads.2 each
 

@@ -64,7 +64,8 @@ numbered-steps caller i n (At host (Arrives frame fate) ∷ later) others a b le
     (numbered-steps caller i n later others (after_atomic (At host (Arrives frame fate)) a) b leads.2 low most within)
 numbered-steps caller i n (At host (Accesses access) ∷ later) others a b leads low most within =
     capped (map tick_of later ++ others) (i + 1) n most
-    ∙ numbered-steps caller (min (i + 1) most_accesses) n later others (after_atomic (At host (Accesses access)) a) b leads.2 (omega arith) most
+    ∙ numbered-steps caller (min (i + 1) most_accesses) n later others (after_atomic (At host (Accesses access)) a) b leads.2 (omega arith)
+    most
     within
 numbered-steps caller i n (Idles Go ∷ later) others a b leads low most within = let never = leads.1 in absurd (cc)
 numbered-steps caller i n (Idles (Step host kind) ∷ later) others a b leads low most within =

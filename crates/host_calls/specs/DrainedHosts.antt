@@ -18,7 +18,7 @@ use Rattle.stations.specs.Stations.{StationState, backlog_at, world_at}
 use Rattle.stations.specs.AtomicRuns.{LeadsTo}
 use Rattle.host_calls.specs.Happenings.{Moved, happened_in}
 use Rattle.bus.specs.Calls.{HasNoForgottenWork, IsRefilled, sum_limit}
-use Rattle.driver.specs.HandlerSteps.{GrowsBy}
+use Rattle.driver.specs.Growth.{GrowsBy}
 use Rattle.driver.specs.declared.receiver.Received.{Received}
 use Rattle.packet_socket.specs.HostCalls.{Given, HostReady, host_did, given_for, held_for_socket, without_socket}
 use Rattle.packet_socket.specs.HostState.{HostState, all_of}

@@ -7,8 +7,8 @@ ghost use Rattle.network_plan.specs.Plans.{HasWire, IsName, IsPlanAnswer, IsSame
 use crate::plan_error::PlanError;
 use arrayvec::ArrayVec;
 use bring_up::Config;
-use registers::{Image, Link};
 use packet_socket::SocketKind;
+use registers::{Image, Link};
 
 /// The maximum number of bytes of a name (our choice).
 pub const MOST_NAME_BYTES: usize = 16;

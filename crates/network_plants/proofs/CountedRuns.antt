@@ -8,7 +8,8 @@ use Rattle.std.proofs.lemmas.List.Recursion.{is_count_by}
 use Rattle.std.proofs.lemmas.List.Sums.{length-filter}
 use Rattle.bus.proofs.Lists.{all-head, all-tail}
 use Rattle.bus.specs.DriverState.{DriverState}
-use Rattle.driver.specs.HandlerSteps.{GrowsBy, IfHandled, IsRun, RunOfSlots, ServesReceiver, bad_runs, run_buffers, whole_frames}
+use Rattle.driver.specs.HandlerSteps.{IfHandled, IsRun, RunOfSlots, ServesReceiver, bad_runs, run_buffers, whole_frames}
+use Rattle.driver.specs.Growth.{GrowsBy}
 use Rattle.driver.specs.declared.interrupt.Handled.{Handled}
 use Rattle.driver.specs.declared.interrupt.Handled.TheVariants.{NotMine}
 use Rattle.driver.specs.declared.interrupt.Handled.TheVariants as answers

@@ -6,7 +6,8 @@ ghost use Rattle.dma_memory.specs.Layout.{size_of};
 ghost use Rattle.registers.specs.Image.{HasRightSum};
 ghost use Rattle.bring_up.specs.EepromReading.{most_reads};
 ghost use Rattle.bring_up.specs.Link.{NeedsMoreThan};
-ghost use Rattle.driver.specs.HandlerSteps.{GrowsBy, IfHandled};
+ghost use Rattle.driver.specs.HandlerSteps.{IfHandled};
+ghost use Rattle.driver.specs.Growth.{GrowsBy};
 ghost use Rattle.driver.specs.declared.receiver.Received.{Received};
 ghost use Rattle.packet_socket.specs.HostState.{queue_at};
 ghost use Rattle.packet_socket.specs.declared.socket_kind.SocketKind.TheVariants as kinds;
@@ -14,8 +15,8 @@ ghost use Rattle.packet_socket.specs.declared.socket_kind.SocketKind.TheVariants
 use bring_up::InitError;
 use bus::Bus;
 use driver::{Driver, Handled, Receiver};
-use registers::Image;
 use packet_socket::Host;
+use registers::Image;
 
 /// Over a lively bus that obeys the law, a device with a right checksum is found if its link needs at most 2,000 ticks.
 pub fn sound_devices_are_found<B: Bus>(bus: &mut B, kilobytes: u8) -> Result<Image, InitError>

@@ -46,7 +46,8 @@ followed paced Happens a middle b one same two = (
 pub met_and_followed : (made comes : Bool) (before : Before) (target : Target)
     (Happens : PlayedAdapter → PlayedAdapter → List Told → Type 0) (a met middle b : WatchedAdapter) → MeetsIf comes before target a met
     → Tells HearsBetween met.events middle.events (Happens met.player middle.player) → middle.agenda ≡ met.agenda
-    → HeardByEvents (Follows (made && nat_lt 0 met.player.pace)) middle b → AfterMeeting comes before target (HeardByEvents (PacedIf made Happens)) a b
+    → HeardByEvents (Follows (made && nat_lt 0 met.player.pace)) middle b
+    → AfterMeeting comes before target (HeardByEvents (PacedIf made Happens)) a b
 met_and_followed made comes before target Happens a met middle b meets one same two = record {
   met = met;
   meets = meets;

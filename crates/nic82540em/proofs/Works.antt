@@ -35,7 +35,8 @@ has_work kind works watched tells answer b answered =
     (tells (has_room watched.player) watched.player.machine.world.memory (framed answered.outcome adapter) answered.plays.0.holds.occurs.1)
 
 pub possible : (watched : WatchedAdapter) (n0 n1 n2 n3 n4 n5 : ℕ) → AnswersWork TxTake 1 n0 watched → AnswersWork TxPut 2 n1 watched
-    → AnswersWork RxData 4 n2 watched → AnswersWork RxDone 8 n3 watched → AnswersWork EepromTick 16 n4 watched → AnswersWork PhyTick 32 n5 watched
+    → AnswersWork RxData 4 n2 watched → AnswersWork RxDone 8 n3 watched → AnswersWork EepromTick 16 n4 watched
+    → AnswersWork PhyTick 32 n5 watched
     → TellsPossible (n0 + n1 + n2 + n3 + n4 + n5) watched
 possible watched n0 n1 n2 n3 n4 n5 take put moves done eeprom phy = record {
   works = for_kind take.works put.works moves.works done.works eeprom.works phy.works;

@@ -4,8 +4,10 @@
 ghost use Rattle.std.specs.Prelude.{◌≡◌, ◌<◌, ◌&&◌, IfOk, IfSome, nat_lt, true};
 ghost use Rattle.bus.specs.declared.event.Access.TheVariants.{Reads, Writes};
 ghost use Rattle.nic82540em.specs.Calls.{AccessAnswered, AnswersArrival, AnswersEvent, AnswersInterleave, LoadAnswered};
-ghost use Rattle.nic82540em.specs.Calls.{AnswersOffer, AnswersPace, ScheduleAnswered, AnswersStep, StoreAnswered, IsWatchedCopy};
-ghost use Rattle.nic82540em.specs.Calls.{Chooses, Follows, HeardByEvents, IsMade, IsMadeOf, IsNew, SettlesOffered, adapter_with_options};
+ghost use Rattle.nic82540em.specs.Calls.{AnswersOffer, AnswersPace, ScheduleAnswered};
+ghost use Rattle.nic82540em.specs.Calls.{AnswersStep, StoreAnswered, IsWatchedCopy};
+ghost use Rattle.nic82540em.specs.Calls.{Chooses, Follows, HeardByEvents, IsMade};
+ghost use Rattle.nic82540em.specs.Calls.{IsMadeOf, IsNew, SettlesOffered, adapter_with_options};
 ghost use Rattle.nic82540em.specs.Calls.{IsPlain, image_of};
 ghost use Rattle.nic82540em.specs.Digests.{state_digest_of};
 
@@ -20,8 +22,8 @@ use access_names::Target;
 use adapter::Adapter;
 use adapter::offsets::PBA;
 use dma_memory::HostMemory;
-use registers::{Image, Link};
 use played_adapter::PlayedAdapter;
+use registers::{Image, Link};
 use std::alloc::{AllocError, Global};
 use std::hash::{FoldHasher, Hasher};
 use step_schedules::Before;

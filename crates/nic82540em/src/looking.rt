@@ -12,7 +12,7 @@ use crate::handle::{Nic, on_adapter};
 use crate::{calls, possible};
 use std::alloc::Global;
 
-/// Returns whether the interrupt line is asserted.
+/// Returns whether the interrupt line is asserted. Returns `false` if the handle holds no adapter.
 #[unsafe(no_mangle)]
 pub extern "C" fn nic82540em_line(alloc: Global, nic: &mut Nic) -> bool
     requires sound { IsSound nic.old }
@@ -77,12 +77,13 @@ pub extern "C" fn nic82540em_waiting_transmit(alloc: Global, nic: &mut Nic) -> u
     )
 }
 
-/// Returns a digest of the adapter and its host's memory. The digest doesn't cover the EEPROM's words, the wire, offered
-/// frames, events, the schedule, the steps before accesses, or the number of accesses.
+/// Returns a digest of the adapter and its host's memory. The digest doesn't cover the EEPROM's words, the wire,
+/// offered frames, events, the schedule, the steps before accesses, or the number of accesses.
 #[unsafe(no_mangle)]
 pub extern "C" fn nic82540em_digest(alloc: Global, nic: &mut Nic) -> u64
     requires sound { IsSound nic.old }
-    ensures value { OnAdapter (OnlyLooks (λ a. result ≡ digest_of a.player.machine.world)) (result ≡ 0) nic.old nic.new }
+    ensures value { OnAdapter
+        (OnlyLooks (λ a. result ≡ digest_of a.player.machine.world)) (result ≡ 0) nic.old nic.new }
 {
     on_adapter!(alloc, nic, 0, |adapter| adapter.player.machine.digest())
 }

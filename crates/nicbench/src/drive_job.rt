@@ -42,8 +42,8 @@ fn drive_adapter<S: Sink>(
     }
 }
 
-/// Writes the counts of a drive of this number of frames to standard error, because the requests are on standard output.
-/// Fails if not all frames were passed to the driver, or fewer frames than expected were received.
+/// Writes the counts of a drive of this number of frames to standard error, because the requests are on standard
+/// output. Fails if not all frames were passed to the driver, or fewer frames than expected were received.
 fn report_counts(
     rt: &HostRuntime,
     job: &DriveJob<'_>,
@@ -69,8 +69,8 @@ fn report_counts(
     }
 }
 
-/// Runs `drive`: sends the frames of IN, writes OUT, and reports the counts. IN isn't `-`, because the adapter's answers
-/// are read from standard input.
+/// Runs `drive`: sends the frames of IN, writes OUT, and reports the counts. IN isn't `-`, because the adapter's
+/// answers are read from standard input.
 pub(crate) fn run_drive(rt: &HostRuntime, job: &DriveJob<'_>) -> Result<(), Fault> {
     let trace = read_file_trace(rt, job.send)?;
     let mut sink = create(rt, job.receive)?;

@@ -70,8 +70,9 @@ fn create_unused(
     Ok(sink)
 }
 
-/// Opens the file for the lines of events, if the job names a file. Refuses a file that the run also reads, or writes in
-/// OUTDIR. An existing file keeps its bytes; a new file is empty. Returns `None` if these lines go to standard output.
+/// Opens the file for the lines of events, if the job names a file. Refuses a file that the run also reads, or writes
+/// in OUTDIR. An existing file keeps its bytes; a new file is empty. Returns `None` if these lines go to standard
+/// output.
 pub(crate) fn create_events_sink(
     rt: &HostRuntime,
     job: &RunJob<'_>,

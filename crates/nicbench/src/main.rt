@@ -52,8 +52,8 @@ fn refuse(rt: &HostRuntime, error: &LineError<'_>) -> ExitCode {
     }
 }
 
-/// Reports a fault of a job on standard error: its text, and what to do if an input was refused or couldn't be read. For
-/// `run`, also reports that existing files in OUTDIR are unchanged, unless a write failed. Returns the exit status,
+/// Reports a fault of a job on standard error: its text, and what to do if an input was refused or couldn't be read.
+/// For `run`, also reports that existing files in OUTDIR are unchanged, unless a write failed. Returns the exit status,
 /// which is the fault's even if standard error accepts nothing.
 fn report(rt: &HostRuntime, job: &Job<'_>, fault: &Fault) -> ExitCode {
     let _ = eprintln!(rt; "nicbench: {fault}");

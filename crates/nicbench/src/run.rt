@@ -183,8 +183,8 @@ fn write_events<W: Sink>(summary: &Summary, file: &mut Option<W>) -> Result<(), 
     }
 }
 
-/// Writes the lines of events to a file, if the job asks for them, the lines of hosts to standard output, and a warning,
-/// if any, to standard error.
+/// Writes the lines of events to a file, if the job asks for them, the lines of hosts to standard output, and a
+/// warning, if any, to standard error.
 fn print_with_file<W: Sink>(
     rt: &HostRuntime,
     summary: &Summary,

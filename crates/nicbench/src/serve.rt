@@ -6,8 +6,8 @@ use crate::codes::{E58, E71};
 use crate::fault::Fault;
 use adapter_server::{ServeOptions, serve};
 use command_line::{ServeImage, ServeJob, ServeLink};
-use registers::{Image, Link, WORDS};
 use program_files::{LateFile, player_of, read_front, record_of, store};
+use registers::{Image, Link, WORDS};
 use std::alloc::AllocError;
 use std::fs::File;
 use std::io::{self, BufReader, BufWriter};
@@ -114,8 +114,8 @@ fn finish(
     report_unmet(rt, player)
 }
 
-/// Serves with this player. The file for the recorded schedule is opened first. At the end, stores the schedule that was
-/// recorded if there is a file for it, and reports the deviations that weren't met.
+/// Serves with this player. The file for the recorded schedule is opened first. At the end, stores the schedule that
+/// was recorded if there is a file for it, and reports the deviations that weren't met.
 fn serve_with(
     rt: &HostRuntime,
     words: &[String],

@@ -9,7 +9,7 @@ use Rattle.std.proofs.lemmas.List.Sums.{sum_by-append}
 use Rattle.rx_engine.specs.Addresses.{ether_type}
 use Rattle.adapter.specs.HostFrames.{frames_held}
 use Rattle.adapter.specs.World.{World}
-use Rattle.driver.specs.HandlerSteps.{GrowsBy}
+use Rattle.driver.specs.Growth.{GrowsBy}
 use Rattle.packet_socket.specs.HostCalls.{Accounts, Given, given_for, held_for_socket, socket_frames, waiting_frames, without_socket}
 use Rattle.packet_socket.specs.HostState.{HostState}
 use Rattle.packet_socket.specs.SocketKinds.{goes_to, has_none}

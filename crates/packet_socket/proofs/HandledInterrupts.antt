@@ -20,7 +20,8 @@ use Rattle.bus.proofs.Intervals.{joined-nothing}
 use Rattle.bus.proofs.Places.{place-below}
 use Rattle.bus.specs.DriverState.{DriverState, HandedOut, frame_of, holding, next_receive, piece_numbers, owners}
 use Rattle.bus.specs.ReadyDrivers.{ReadyWith, Stands}
-use Rattle.driver.specs.HandlerSteps.{Asked, DoesNothing, GrowsBy, Handles, HandlesIt, IfHandled, IfNotMine, IsSublist, OnlyReceives}
+use Rattle.driver.specs.HandlerSteps.{Asked, DoesNothing, Handles, HandlesIt, IfHandled, IfNotMine, IsSublist, OnlyReceives}
+use Rattle.driver.specs.Growth.{GrowsBy}
 use Rattle.driver.specs.HandlerSteps.{Scene, ServesReceiver}
 use Rattle.driver.specs.HandlerSteps.{held_in}
 use Rattle.driver.specs.Parts.{buffers_of, joined_frames, pieces_of, received_of}

@@ -16,8 +16,10 @@ use Rattle.bus.specs.Calls.{DriverDid, DriverInWorld, FlowsTo, GoesTo, IsRefille
 use Rattle.bus.specs.Calls.{stores_from, tail_write}
 use Rattle.bus.specs.DriverState.{DriverState, HandedOut, buffer_at, frame_of, holding, next_receive, piece_numbers, with_owners}
 use Rattle.bus.specs.ReadyDrivers.{ReadyWith}
-use Rattle.driver.specs.HandlerSteps.{AreFramesOf, AreOfOneFrame, GrowsBy, IsTaken, RunOfSlots}
-use Rattle.driver.specs.HandlerSteps.{ServesRing, count_limit}
+use Rattle.driver.specs.HandlerSteps.{AreFramesOf, AreOfOneFrame, IsTaken, RunOfSlots}
+use Rattle.driver.specs.Growth.{GrowsBy}
+use Rattle.driver.specs.HandlerSteps.{ServesRing}
+use Rattle.driver.specs.Growth.{count_limit}
 use Rattle.driver.specs.Parts.{AreFrames, IsFrameSize, part_loads, received_of}
 use Rattle.driver.specs.declared.parts.Part.{Part}
 use Rattle.driver.specs.declared.receiver.Received.{Received}

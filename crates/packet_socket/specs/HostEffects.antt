@@ -22,7 +22,9 @@ use Rattle.bus.specs.DriverState.{HandedOut, next_receive, piece_numbers, with_o
 use Rattle.bring_up.specs.Groups.{HasTable, SetsTable, with_groups}
 use Rattle.bring_up.specs.declared.groups.GroupError.{GroupError}
 use Rattle.bring_up.specs.declared.groups.GroupError.TheVariants.{GroupsFull, Joined, NotGroup, NotJoined}
-use Rattle.driver.specs.HandlerSteps.{GrowsBy, IsLook, OnlyReceives, ReadsMisses, TakesAndOffers, offering_accesses, taking_accesses}
+use Rattle.driver.specs.HandlerSteps.{OnlyReceives, ReadsMisses, TakesAndOffers, offering_accesses, taking_accesses}
+use Rattle.driver.specs.Growth.{GrowsBy}
+use Rattle.driver.specs.Looks.{IsLook}
 use Rattle.driver.specs.Parts.{joined_frames}
 use Rattle.driver.specs.SendSteps.{SendAnswer, loads_to_free, with_transmit_slots}
 use Rattle.driver.specs.declared.transmit.SendError.TheVariants.{RingFull, TooLong, TooShort}

@@ -1,6 +1,6 @@
 -- How the sockets of a host sort the frames that the driver shows to them (our choice).
 use Rattle.std.specs.Prelude.{◌≡◌, ◌≤◌, ◌+◌, List, length}
-use Rattle.driver.specs.HandlerSteps.{GrowsBy}
+use Rattle.driver.specs.Growth.{GrowsBy}
 use Rattle.driver.specs.declared.receiver.Received.{Received}
 use Rattle.packet_socket.specs.HostCalls.{Queues, claimed_of, unclaimed_of}
 use Rattle.packet_socket.specs.HostState.{SocketsState, all_of}

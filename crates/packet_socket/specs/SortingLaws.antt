@@ -8,8 +8,8 @@ use Rattle.std.proofs.lemmas.List.{append-nil, length-set}
 use Rattle.std.proofs.lemmas.List.Elements.{filter-append}
 use Rattle.std.proofs.lemmas.List.Sorted.{IsPermutation-append_left, IsPermutation-refl, IsPermutation-trans, length_permutation}
 use Rattle.std.proofs.lemmas.List.Sums.{sum_by-append, sum_by-cons}
-use Rattle.driver.specs.GrowsLaws.{grows-join, grows-none}
-use Rattle.driver.specs.HandlerSteps.{GrowsBy, count_limit}
+use Rattle.driver.specs.Growth.{grows-join, grows-none}
+use Rattle.driver.specs.Growth.{GrowsBy, count_limit}
 use Rattle.driver.specs.declared.receiver.Received.{Received}
 use Rattle.packet_socket.specs.SocketKinds.{goes_to, has_none, has_socket, socket_of}
 use Rattle.packet_socket.specs.HostCalls.{Queues, claimed_of, socket_entries, unclaimed_of}

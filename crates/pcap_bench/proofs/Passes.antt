@@ -12,7 +12,8 @@ use Rattle.pcap_trace.specs.Format.{Timed, packet_of, written}
 use Rattle.pcap_trace.proofs.Flushed.{flushed_front}
 use Rattle.pcap_trace.specs.declared.unit.Unit.{Unit}
 use Rattle.pcap_trace.proofs.Packets.{written-push}
-use Rattle.pcap_bench.specs.Passing.{Filter, Fate, illegal, filtered, kept, IsFateBy, HaveFates, is_illegal_fate, is_filtered, is_kept, kept_from}
+use Rattle.pcap_bench.specs.Passing.{Filter, Fate, illegal, filtered, kept, IsFateBy}
+use Rattle.pcap_bench.specs.Passing.{HaveFates, is_illegal_fate, is_filtered, is_kept, kept_from}
 use Rattle.pcap_bench.specs.Passing.{StopsAmong, WritesKept}
 use Rattle.pcap_bench.specs.declared.counts.PassCounts.{PassCounts}
 
@@ -47,7 +48,8 @@ count_by-push p ts t = sum_by_push (λ x. cond (p x) 1 0) ts t
 
 -- ---- two filters that keep the same frames
 
-IsFate-same : (keeps others : Filter) (f : List ℕ) (t : Fate) → ((g : List ℕ) → keeps g ↔ others g) → IsFateBy keeps f t → IsFateBy others f t
+IsFate-same : (keeps others : Filter) (f : List ℕ) (t : Fate) → ((g : List ℕ) → keeps g ↔ others g) → IsFateBy keeps f t
+    → IsFateBy others f t
 IsFate-same keeps others f illegal both is = is
 IsFate-same keeps others f filtered both is = (is.0, λ kept. is.1 ((both (padded f)).1 kept))
 IsFate-same keeps others f kept both is = (is.0, (both (padded f)).0 is.1)

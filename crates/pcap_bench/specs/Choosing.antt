@@ -30,7 +30,8 @@ with_vlan_bit (Some number) r = record r { vfta = with_bit r.vfta number }
 
 -- the registers for the options' address, group and VLAN; VET is `VLAN_TYPE`
 abbrev pub with_tables : PassFilter → FilterRegisters → FilterRegisters
-with_tables options r = record (with_vlan_bit options.vlan (with_group_bit options.group (with_address options.address r))) { vet = VLAN_TYPE }
+with_tables options r =
+    record (with_vlan_bit options.vlan (with_group_bit options.group (with_address options.address r))) { vet = VLAN_TYPE }
 
 -- RCTL: EN and BAM; also UPE and MPE if every address is accepted (the first argument), and VFE if a VLAN is given (the second).
 abbrev pub mode_bits : Bool → Bool → ℕ

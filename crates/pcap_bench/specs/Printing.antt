@@ -15,6 +15,7 @@ cut_word false = codes " cut no\n"
 -- the line of a pass over this trace, with these counts
 abbrev pub pass_line : Trace → PassCounts → List ℕ
 pass_line trace counts =
-    count_field (codes "read ") counts.read ++ count_field (codes " skipped ") trace.skipped ++ count_field (codes " illegal ") counts.illegal
+    count_field (codes "read ") counts.read ++ count_field (codes " skipped ") trace.skipped
+    ++ count_field (codes " illegal ") counts.illegal
     ++ count_field (codes " filtered ") counts.filtered
     ++ count_field (codes " written ") counts.written ++ cut_word trace.cut

@@ -61,8 +61,10 @@ fault_of (Err errors.Record) = None
 fault_of (Err e) = Some e
 
 fault_of-answer : (bytes : List ℕ) (r : Result Trace ReadError) → is_of_bytes r ≡ true → IsAnswer bytes r → told_fault bytes ≡ fault_of r
-fault_of-answer bytes (Ok t) speaks fits = told_fault-in fits.0 bytes None (header_fault-none (number_order fits.0) bytes fits.1.0) (λ h. cc)
-fault_of-answer bytes (Err errors.Record) speaks fits = told_fault-in fits.0 bytes None (header_fault-none (number_order fits.0) bytes fits.1)
+fault_of-answer bytes (Ok t) speaks fits =
+    told_fault-in fits.0 bytes None (header_fault-none (number_order fits.0) bytes fits.1.0) (λ h. cc)
+fault_of-answer bytes (Err errors.Record) speaks fits =
+    told_fault-in fits.0 bytes None (header_fault-none (number_order fits.0) bytes fits.1)
     (λ h. cc)
 fault_of-answer bytes (Err errors.Memory) speaks fits = absurd cc
 fault_of-answer bytes (Err errors.Read) speaks fits = absurd cc

@@ -4,7 +4,8 @@ use Rattle.std.proofs.lemmas.List.{nil_from_length, length-drop, take-append-le,
 use Rattle.std.proofs.lemmas.List.Sums.{sum_by-cons}
 use Rattle.pcap_trace.specs.Frames.{cut_into}
 
-pub cut-push : (ns bytes more : List ℕ) → sum ns ≡ length bytes → cut_into (ns ++ length more ∷ []) (bytes ++ more) ≡ cut_into ns bytes ++ more ∷ []
+pub cut-push : (ns bytes more : List ℕ) → sum ns ≡ length bytes
+    → cut_into (ns ++ length more ∷ []) (bytes ++ more) ≡ cut_into ns bytes ++ more ∷ []
 cut-push [] bytes more all =
     let none : bytes ≡ [] = nil_from_length bytes (sym all) in
     let whole : take (length more) more ≡ more = ap (take (length more)) (sym (append-nil more)) ∙ take_at more [] (length more) refl in

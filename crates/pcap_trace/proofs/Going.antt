@@ -44,7 +44,8 @@ text_within n held left long =
     ap (take n) (drop-append-le 16 held left (omega arith)) ∙ take-append-le n (drop 16 held) left (omega (arith, length-drop 16 held))
 
 -- a step over a packet of n captured bytes at the front of the block, for bytes that may be unknown
-passed : (number : Order) (a left : Option (List ℕ)) (held : List ℕ) (frames more : List (List ℕ)) (skipped others n : ℕ) → 16 + n ≤ length held
+passed : (number : Order) (a left : Option (List ℕ)) (held : List ℕ) (frames more : List (List ℕ)) (skipped others n : ℕ)
+    → 16 + n ≤ length held
     → ((bytes left : List ℕ) → GoesOn number bytes (held ++ left) frames skipped
     → GoesOn number bytes (drop n (drop 16 (held ++ left))) more others)
     → GoesOnKnown number a (prepend_known held left) frames skipped

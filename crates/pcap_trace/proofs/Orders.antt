@@ -37,7 +37,8 @@ both_orders bytes little big =
     (big_number 4 bytes) (omega arith) (omega arith)
     (magic_cases (little_number 4 bytes) little) (magic_cases (big_number 4 bytes) big)
 
-pub one_order : (bytes : List ℕ) (o p : Endianness) → IsTrue (is_magic (number_order o 4 bytes)) → IsTrue (is_magic (number_order p 4 bytes))
+pub one_order : (bytes : List ℕ) (o p : Endianness) → IsTrue (is_magic (number_order o 4 bytes))
+    → IsTrue (is_magic (number_order p 4 bytes))
     → o ≡ p
 one_order bytes Big Big m n = refl
 one_order bytes Little Little m n = refl

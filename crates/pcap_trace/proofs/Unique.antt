@@ -4,7 +4,8 @@ use Rattle.std.proofs.Common.{arith}
 use Rattle.std.specs.List.{flat_map, AllByRecursion}
 use Rattle.std.proofs.lemmas.List.{take_at, drop_at, length-append}
 use Rattle.std.proofs.lemmas.List.Concat.{flat_map-cons}
-use Rattle.pcap_trace.specs.Format.{Order, Packet, Ending, complete, cut_off, oversized, captured_length, packet_bytes, IsPacket, untruncated_frames}
+use Rattle.pcap_trace.specs.Format.{Order, Packet, Ending, complete, cut_off}
+use Rattle.pcap_trace.specs.Format.{oversized, captured_length, packet_bytes, IsPacket, untruncated_frames}
 use Rattle.pcap_trace.specs.Format.{skipped_of, IsRest, IsBody}
 use Rattle.pcap_trace.proofs.Bodies.{ReadsFirst, word-append}
 

@@ -11,8 +11,10 @@ use Rattle.pcap_trace.specs.declared.header.Endianness.{Endianness}
 use Rattle.pcap_trace.specs.declared.header.Endianness.TheVariants.{Little}
 use Rattle.pcap_trace.specs.declared.unit.Unit.{Unit}
 use Rattle.pcap_trace.specs.declared.unit.Unit.TheVariants.{Micros, Nanos}
-use Rattle.pcap_trace.specs.Format.{number_order, is_magic, Packet, Timed, complete, captured_length, original_length, packet_bytes, IsPacket}
-use Rattle.pcap_trace.specs.Format.{is_partial, untruncated_frames, skipped_of, ending_of, IsTraceIn, file_header, packet_header, packet_of, written}
+use Rattle.pcap_trace.specs.Format.{number_order, is_magic, Packet, Timed, complete}
+use Rattle.pcap_trace.specs.Format.{captured_length, original_length, packet_bytes, IsPacket}
+use Rattle.pcap_trace.specs.Format.{is_partial, untruncated_frames, skipped_of, ending_of, IsTraceIn}
+use Rattle.pcap_trace.specs.Format.{file_header, packet_header, packet_of, written}
 use Rattle.pcap_trace.specs.Format.{timed_frame, IsShort, WrittenIsTrace, WrittenIsNoOther}
 use Rattle.pcap_trace.proofs.Orders.{number_first, one_order}
 use Rattle.pcap_trace.proofs.Unique.{body_unique}

@@ -180,4 +180,5 @@ WrittenIsTrace = (unit : Unit) (ts : List Timed) → AllByRecursion IsShort ts �
 abbrev pub WrittenIsNoOther : Type 0
 WrittenIsNoOther =
     (unit : Unit) (ts : List Timed) (frames : List (List ℕ)) (skipped : ℕ) (cut : Bool)
-    → AllByRecursion IsShort ts → IsTrace (written unit ts) frames skipped cut → (frames ≡ map timed_frame ts) × (skipped ≡ 0) × (cut ≡ false)
+    → AllByRecursion IsShort ts → IsTrace (written unit ts) frames skipped cut
+    → (frames ≡ map timed_frame ts) × (skipped ≡ 0) × (cut ≡ false)

@@ -105,7 +105,8 @@ fn read_body_in<S: Source>(
         (λ t. IfSome (prepend_known block.old (S.left source.old))
         (λ bytes. IsBody (number_order order) bytes t.frames t.skipped (ending_of t.cut))) }
     ensures fault { IfErr result
-        (λ e. IfSome (prepend_known block.old (S.left source.old)) (λ bytes. IsBodyFault (number_order order) bytes e)) }
+        (λ e. IfSome (prepend_known block.old (S.left source.old))
+        (λ bytes. IsBodyFault (number_order order) bytes e)) }
     ensures failure { TellsFailure result (S.failures source.old) (S.failures source.new) }
     ensures end { OnOk result (IsAtEnd (S.left source.new)) }
     ensures used { Uses (S.left source.old) (S.left source.new) }

@@ -6,7 +6,8 @@ use Rattle.bus.specs.declared.event.Access.{Access}
 use Rattle.bus.specs.declared.event.Event.{Event}
 use Rattle.bus.specs.declared.event.Event.TheVariants.{Accesses}
 use Rattle.played_adapter.specs.Order.{ComposesHeard, Tells}
-use Rattle.played_adapter.specs.Playing.{Accessed, AnswersLoad, HappensTold, HappensAlone, Prepares, ReportsLine, after, has_bytes, line_change}
+use Rattle.played_adapter.specs.Playing.{Accessed, AnswersLoad, HappensTold, HappensAlone, Prepares}
+use Rattle.played_adapter.specs.Playing.{ReportsLine, after, has_bytes, line_change}
 use Rattle.played_adapter.specs.Playing.{reported}
 use Rattle.played_adapter.specs.Told.{Told}
 use Rattle.played_adapter.specs.Told as told

@@ -95,7 +95,8 @@ quiet_accesses access a b told no_ticks none_is_drawn none_is_due accessed =
     let ticked = steps.middle in
     let waited = steps.goes_on.middle in
     let draws = steps.goes_on.goes_on in
-    let ticks = subst (λ (on : Bool). InOrder PlaysStepOfKind (cond on kinds_of_ticks []) (a, 0) (ticked, steps.happens.0) steps.first) no_ticks
+    let ticks = subst (λ (on : Bool). InOrder PlaysStepOfKind (cond on kinds_of_ticks []) (a, 0) (ticked, steps.happens.0) steps.first)
+    no_ticks
     steps.happens.1 in
     let ticked_is : ticked ≡ a = ap (λ (s : PlayedAdapter × ℕ). s.0) ticks.0 in
     let none_due : due_in ticked ≡ [] = ap due_in ticked_is ∙ none_is_due in

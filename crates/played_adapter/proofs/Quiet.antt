@@ -2,7 +2,8 @@
 use Rattle.std.proofs.Common.{◌≡◌, [], ℕ, Bool, List, ap, cond, false, refl, subst, sym}
 use Rattle.played_adapter.specs.Draws.{drawn_count}
 use Rattle.played_adapter.specs.Order.{InOrder, Tells, Times}
-use Rattle.played_adapter.specs.Playing.{Accessed, DrawsChoice, HappensAlone, Interleaves, PlaysStepOfKind, PlaysScheduled, Prepares, kinds_of_ticks}
+use Rattle.played_adapter.specs.Playing.{Accessed, DrawsChoice, HappensAlone, Interleaves}
+use Rattle.played_adapter.specs.Playing.{PlaysStepOfKind, PlaysScheduled, Prepares, kinds_of_ticks}
 use Rattle.played_adapter.specs.Playing.{access_counted, due}
 use Rattle.played_adapter.specs.Told.{Told}
 use Rattle.bus.specs.declared.event.Access.{Access}

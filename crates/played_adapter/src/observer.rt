@@ -18,8 +18,8 @@ pub trait Observer {
     /// Holds between two states of the observer if the observer was told this list, in order, between them.
     ghost heard: { Self → Self → List Told → Type 0 };
 
-    /// A step had this outcome. If the step put a frame, `frame` is this frame. If the outcome is a fault, `fault`
-    /// contains its engine, index and reason.
+    /// A step had this outcome. If the step put a frame, `frame` is this frame; otherwise `frame` has no meaning. If
+    /// the outcome is a fault, `fault` contains its engine, index and reason.
     fn stepped(
         &mut self,
         kind: StepKind,

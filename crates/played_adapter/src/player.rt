@@ -78,8 +78,8 @@ pub(crate) fn address_of(memory: &HostMemory) -> Option<*const u8> {
 }
 
 impl PlayedAdapter {
-    /// Returns this adapter with this memory, and these frames and steps that wait. No step is played before or after an
-    /// access.
+    /// Returns this adapter with this memory, and these frames and steps that wait. No step is played before or after
+    /// an access.
     #[tactic(auto, unfolding(crate::specs::Playing::new_with_queues))]
     fn with_queues(adapter: Adapter, memory: HostMemory, queues: Queues) -> PlayedAdapter
         ensures { result ≡ new_with_queues queues memory adapter result.address }

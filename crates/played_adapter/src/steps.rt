@@ -5,7 +5,8 @@ ghost use Rattle.adapter.specs.declared.step.StepKind.TheVariants.{TxPut};
 ghost use Rattle.bus.specs.Trails.{Occurs};
 ghost use Rattle.played_adapter.specs.Order.{Tells};
 ghost use Rattle.played_adapter.specs.Outcomes as outcomes;
-ghost use Rattle.played_adapter.specs.Playing.{Arrives, PlaysAll, ReportsLine, Cycle, Settles, Steps, after_played_step};
+ghost use Rattle.played_adapter.specs.Playing.{Arrives, PlaysAll, ReportsLine, Cycle};
+ghost use Rattle.played_adapter.specs.Playing.{Settles, Steps, after_played_step};
 ghost use Rattle.played_adapter.specs.Playing.{expected, fault_told, has_room, step_of};
 ghost use Rattle.played_adapter.specs.Told as told;
 

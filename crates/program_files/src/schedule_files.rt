@@ -23,7 +23,8 @@ fn is_for_job(alloc: Global, schedule: &Schedule, job: &ServeJob<'_>) -> Result<
     }
 }
 
-/// Returns the player of the schedule with this text, which must be for the adapter of this job.
+/// Returns the player of the schedule with this text. Fails with `OtherOptions` if the schedule is for another adapter
+/// than this job's.
 fn player_in(alloc: Global, text: &[u8], job: &ServeJob<'_>) -> Result<Player, FileError> {
     let schedule = Schedule::parse(alloc, text)?;
     if is_for_job(alloc, &schedule, job)? {
@@ -33,7 +34,7 @@ fn player_in(alloc: Global, text: &[u8], job: &ServeJob<'_>) -> Result<Player, F
     }
 }
 
-/// Returns the player of the schedule at a path, which must be for the adapter of this job. The path `-` is refused.
+/// Returns the player of the schedule at a path, as [`player_in`] does. The path `-` is refused.
 fn playing<R: Files + Input + AllocGlobal>(
     rt: &R,
     path: &str,

@@ -216,9 +216,11 @@ pub adapter_one : (words : List Text) (job other : ServeJob) → IsSameAdapterAn
     → HaveSameAdapter job other
 adapter_one words job other p q = same_adapter_one p.0 q.0 job other (asked_one words p.0 q.0 p.1 q.1) p.2 q.2
 
-pub is_for_one : {E : Type 0} (words : List Text) (job other : ServeJob) (one two : Result Bool E) → IfOk one (IsSameAdapterAnswer words job)
+pub is_for_one : {E : Type 0} (words : List Text) (job other : ServeJob) (one two : Result Bool E)
+    → IfOk one (IsSameAdapterAnswer words job)
     → IfOk two (IsSameAdapterAnswer words other) → IfOk one (λ is. IfOk two (λ also. IsTrue is → IsTrue also → HaveSameAdapter job other))
 is_for_one words job other (Ok is) (Ok also) p q = λ yes both.
-    adapter_one words job other (subst (λ (b : Bool). IsSameAdapterAnswer words job b) yes p) (subst (λ (b : Bool). IsSameAdapterAnswer words other b) both q)
+    adapter_one words job other (subst (λ (b : Bool). IsSameAdapterAnswer words job b) yes p)
+    (subst (λ (b : Bool). IsSameAdapterAnswer words other b) both q)
 is_for_one words job other (Ok is) (Err error) p q = tt
 is_for_one words job other (Err error) two p q = tt

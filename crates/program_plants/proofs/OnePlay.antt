@@ -15,7 +15,8 @@ use Rattle.played_adapter.specs.Order.{InOrder, Joins, Tells, Times}
 use Rattle.played_adapter.specs.Outcomes.{did, moved_by}
 use Rattle.played_adapter.specs.Playing.{Accessed, AllArrive, AnswersLoad, AnswersStore, Arrives, Chosen, Draws, DrawsChoice}
 use Rattle.played_adapter.specs.Playing.{FrameArrives, HappensTold, HappensAlone}
-use Rattle.played_adapter.specs.Playing.{Interleaves, Makes, NextArrives, OldestArrives, PlaysStepOfKind, PlaysScheduled, Prepares, Steps, Ticks}
+use Rattle.played_adapter.specs.Playing.{Interleaves, Makes, NextArrives, OldestArrives, PlaysStepOfKind}
+use Rattle.played_adapter.specs.Playing.{PlaysScheduled, Prepares, Steps, Ticks}
 use Rattle.played_adapter.specs.Playing.{kinds_of_ticks, access_counted, drawn_from, due_in, noted, without_next}
 use Rattle.played_adapter.specs.Told.{Told}
 use Rattle.played_adapter.specs.declared.choices.Choice.{Choice}
@@ -92,7 +93,8 @@ plays_one kind a b c told other p q =
 
 ticks_one : IsOne Ticks
 ticks_one a b c told other p q =
-    let same = in_order_one PlaysStepOfKind plays_one (if a.ticks then kinds_of_ticks else []) (a, 0) (b, p.0) (c, q.0) told other p.1 q.1 in
+    let same =
+    in_order_one PlaysStepOfKind plays_one (if a.ticks then kinds_of_ticks else []) (a, 0) (b, p.0) (c, q.0) told other p.1 q.1 in
     (ap (λ (x : PlayedAdapter × ℕ). x.0) same.0, same.1)
 
 scheduled_one : (step : ScheduledStep) → IsOne (PlaysScheduled step)
@@ -200,7 +202,8 @@ stores_one address bytes false false a b c told other p q =
     let two = q.refused refl in
     (refl, one.0 ∙ sym two.0, one.1 ∙ sym two.1)
 
-pub one_told : {O S : Type 0} (heard : O → O → List Told → Type 0) (HappensTold : S → S → List Told → Type 0) → IsOne HappensTold → (a b c : S)
+pub one_told : {O S : Type 0} (heard : O → O → List Told → Type 0) (HappensTold : S → S → List Told → Type 0) → IsOne HappensTold
+    → (a b c : S)
     (before after before' after' : O) → Tells heard before after (HappensTold a b) → Tells heard before' after' (HappensTold a c)
     → (b ≡ c) × ((told : List Told) × heard before after told × heard before' after' told)
 one_told heard HappensTold one a b c before after before' after' p q =

@@ -144,7 +144,8 @@ not_both_answers words job asked (inr (inl invalid)) = asked_not_invalid words a
 not_both_answers words job asked (inr (inr other)) =
     other.2 (adapter_moved asked.0 other.0 job (asked_one words asked.0 other.0 asked.1 other.1) asked.2)
 
-pub answer_one : (words : List Text) (job : ServeJob) (one two : Bool) → IsSameAdapterAnswer words job one → IsSameAdapterAnswer words job two → one ≡ two
+pub answer_one : (words : List Text) (job : ServeJob) (one two : Bool) → IsSameAdapterAnswer words job one
+    → IsSameAdapterAnswer words job two → one ≡ two
 answer_one words job true true p q = refl
 answer_one words job true false p q = absurd (not_both_answers words job p q)
 answer_one words job false true p q = absurd (not_both_answers words job q p)

@@ -6,7 +6,8 @@ use Rattle.registers.specs.declared.eerd.ReadState.{ReadState}
 use Rattle.registers.specs.declared.eerd.ReadState.TheVariants.{Idle, Pending, Done}
 use Rattle.registers.specs.Image.{word_at}
 use Rattle.registers.specs.Eerd.{has_start, addr, eerd_after_write, shown}
-use Rattle.registers.specs.EerdHistory.{Operation, Write, Tick, after_operation, after_all, is_start, NoStart, NoTick, HasTick, AnswersByHistory}
+use Rattle.registers.specs.EerdHistory.{Operation, Write, Tick, after_operation, after_all}
+use Rattle.registers.specs.EerdHistory.{is_start, NoStart, NoTick, HasTick, AnswersByHistory}
 
 -- The register after two lists of operations, one after the other.
 pub after_all-append : (words : List ℕ) (before after : List Operation) (state : ReadState)

@@ -6,7 +6,8 @@ use Rattle.registers.specs.declared.mdic.Operation.{Operation}
 use Rattle.registers.specs.declared.mdic.Operation.TheVariants as operation
 use Rattle.registers.specs.declared.mdic.Ticked.{Ticked}
 use Rattle.registers.specs.Phy.{PhyState, read_value, comes_up, is_counting}
-use Rattle.registers.specs.Mdic.{MdicState, new_mdic, mdic_after_write, mdic_after_tick, phy_after_tick, kept_bits, with_ready, with_error, with_data}
+use Rattle.registers.specs.Mdic.{MdicState, new_mdic, mdic_after_write, mdic_after_tick, phy_after_tick}
+use Rattle.registers.specs.Mdic.{kept_bits, with_ready, with_error, with_data}
 use Rattle.registers.specs.Mdic.{data_bits, regadd, phyadd, operation_of, reaches_phy, told}
 use Rattle.registers.specs.PhyHistory.{PhyEvent, phy_after_all}
 use Rattle.registers.specs.PhyHistory as phy
@@ -101,7 +102,8 @@ pub record MdicByHistory : Type 0 where
   -- Without a write, the register reads 0.
   pub never_written : (state : PhyState) (all : List MdicEvent) → NoWrite all → mdic_reads state all ≡ 0
   -- Until a tick, the register reads the last written value, without R, E and bit 31.
-  pub no_tick_yet : (state : PhyState) (before : List MdicEvent) (value : ℕ) → mdic_reads state (before ++ Write value ∷ []) ≡ kept_bits value
+  pub no_tick_yet : (state : PhyState) (before : List MdicEvent) (value : ℕ)
+      → mdic_reads state (before ++ Write value ∷ []) ≡ kept_bits value
   -- If OP of the last write is 00 or 11, ticks don't change the value.
   pub no_command : (state : PhyState) (before : List MdicEvent) (value : ℕ) (after : List MdicEvent) → operation_of value ≡ None
       → NoWrite after

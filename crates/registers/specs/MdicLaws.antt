@@ -11,7 +11,8 @@ use Rattle.registers.specs.declared.mdic.Operation.TheVariants as operation
 use Rattle.registers.specs.declared.mdic.Ticked.{Ticked}
 use Rattle.registers.specs.Phy.{PhyState, read_value, after_tick, comes_up, is_counting}
 use Rattle.registers.specs.Phy as state
-use Rattle.registers.specs.Mdic.{new_mdic, kept_bits, with_ready, with_error, with_data, data_bits, regadd, phyadd, operation_of, reaches_phy}
+use Rattle.registers.specs.Mdic.{new_mdic, kept_bits, with_ready, with_error, with_data}
+use Rattle.registers.specs.Mdic.{data_bits, regadd, phyadd, operation_of, reaches_phy}
 use Rattle.registers.specs.Mdic.{ended, ended_value, phy_ended, told}
 use Rattle.registers.specs.PhyHistory.{PhyEvent, phy_after, phy_after_all}
 use Rattle.registers.specs.PhyHistory as phy
@@ -141,7 +142,8 @@ mdic_by_history = record {
       let at : PhyState = ticked_phy s before in
       reads-ended s before value after none
       ∙ ap (λ (p : Option Operation). ended p (kept_bits value) at) asked
-      ∙ ap (λ (p : ℕ). cond (p == 1) (with_ready (with_data (read_value (regadd (kept_bits value)) at) (kept_bits value))) (with_error (kept_bits value)))
+      ∙ ap (λ (p : ℕ). cond (p == 1) (with_ready (with_data (read_value (regadd (kept_bits value)) at) (kept_bits value)))
+      (with_error (kept_bits value)))
       (phyadd-kept value ∙ here)
       ∙ ap (λ (r : ℕ). with_ready (with_data (read_value r at) (kept_bits value))) (regadd-kept value);
   not_there = λ s before value asked after is other none.

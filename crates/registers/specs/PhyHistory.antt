@@ -6,7 +6,8 @@ use Rattle.registers.specs.Bits.{is_set}
 use Rattle.registers.specs.Places.{alone}
 use Rattle.registers.specs.declared.phy.Link.{Link}
 use Rattle.registers.specs.declared.phy.Link.TheVariants.{After, Never}
-use Rattle.registers.specs.Phy.{PhyState, new_phy, phy_after_write, phy_after_read, after_tick, read_value, link_is_up, link_seen, link_unseen}
+use Rattle.registers.specs.Phy.{PhyState, new_phy, phy_after_write, phy_after_read, after_tick}
+use Rattle.registers.specs.Phy.{read_value, link_is_up, link_seen, link_unseen}
 use Rattle.registers.specs.PhyPlaces.{control_enable, control_reset, control_restart}
 
 -- An event at a PHY: a tick, a read of a register, or a write of a value to a register.

@@ -9,7 +9,8 @@ use Rattle.registers.specs.Bits.{is_set}
 use Rattle.registers.specs.declared.phy.Link.{Link}
 use Rattle.registers.specs.declared.phy.Link.TheVariants.{After, Never}
 use Rattle.registers.specs.declared.phy.Negotiation.TheVariants.{NotStarted, Running, Complete}
-use Rattle.registers.specs.Phy.{PhyState, new_phy, phy_after_write, phy_after_read, after_tick, link_is_up, is_complete, counted_down, negotiation_of}
+use Rattle.registers.specs.Phy.{PhyState, new_phy, phy_after_write, phy_after_read, after_tick}
+use Rattle.registers.specs.Phy.{link_is_up, is_complete, counted_down, negotiation_of}
 use Rattle.registers.specs.Phy.{status_value}
 use Rattle.registers.specs.PhyHistory.{PhyEvent, Tick, Read, Write, phy_after, phy_after_all, phy_behind, is_tick_of_phy, is_status_read}
 use Rattle.registers.specs.PhyHistory.{is_control_write, is_phy_reset, is_restart, takes_down, HasNo, LinkByHistory, LatchByHistory}
@@ -149,7 +150,8 @@ running-after_events [] phy left none some runs = ap is_complete runs ∙ grind 
 running-after_events (Tick ∷ later) phy left none some runs = elim (either (nat_le left 1)) [
   | inl last ↦ ap is_complete (complete-after_events later (after_tick phy) none (ap counted_down runs ∙ counted-last left last))
       ∙ enough-one_more left (count_by is_tick_of_phy later) (count_by is_tick_of_phy (Tick ∷ later)) last (count_ticks later)
-  | inr more ↦ running-after_events later (after_tick phy) (left - 1) none (still_some left more) (ap counted_down runs ∙ counted-more left more)
+  | inr more ↦ running-after_events later (after_tick phy) (left - 1) none (still_some left more)
+      (ap counted_down runs ∙ counted-more left more)
       ∙ enough-one_less left (count_by is_tick_of_phy later) (count_by is_tick_of_phy (Tick ∷ later)) some (count_ticks later)
 ]
 running-after_events (Read register ∷ later) phy left none some runs =

@@ -129,8 +129,8 @@ impl RunLog {
         }
     }
 
-    /// Returns a log without answers, which records a line for each event and drain. `plans` are the plans of the hosts,
-    /// whose names the lines contain.
+    /// Returns a log without answers, which records a line for each event and drain. `plans` are the plans of the
+    /// hosts, whose names the lines contain.
     pub(crate) fn with_lines(alloc: Global, plans: &[HostPlan]) -> Result<RunLog, AllocError>
         ensures { IfOk result (λ log. log ≡ new_log (map plan_name plans.now) true) }
     {

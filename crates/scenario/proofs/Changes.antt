@@ -76,7 +76,8 @@ find-none p (x ∷ xs) long =
     ] in
     step (p x) refl long
 
-pub no_room : (name : Text) (held : Host → ℕ) (most : ℕ) (hosts : List Host) → None ≡ host_place name hosts → ¬ IsRoomAt name held most hosts
+pub no_room : (name : Text) (held : Host → ℕ) (most : ℕ) (hosts : List Host) → None ≡ host_place name hosts
+    → ¬ IsRoomAt name held most hosts
 no_room name held most hosts none room =
     let p = has_name name in
     let place = place-missing p hosts none in

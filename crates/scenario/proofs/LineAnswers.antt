@@ -18,7 +18,8 @@ module _ (before after : SoFar) (words : List Text) (kind : LineKind) (says : is
   some-and : (P : LineKind → Type 0) → P kind → IsSomeAnd (line_kind_named (word 0 words)) P
   some-and P h = subst (λ (found : Option LineKind). IsSomeAnd found P) (sym named) h
 
-  pub words-said : (result : Result (Unit {0}) Stop) → IsAnswerToLine kind before words result after → IsWordsAnswer before words result after
+  pub words-said : (result : Result (Unit {0}) Stop) → IsAnswerToLine kind before words result after
+      → IsWordsAnswer before words result after
   words-said (Ok u) h = (
     λ same. some-and (λ one. IsGood one before words) h.0,
     h.1 ∙ sym (ap (λ b. cond b before (after_kind (line_kind_named (word 0 words)) before words)) says

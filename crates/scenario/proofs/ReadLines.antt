@@ -57,7 +57,8 @@ read_more text start count taken said after bytes rest before same first some mo
           ∙ sym (fold_more (λ front line. after_words front (words_of line)) nothing_read all count [] place);
     }
 
-pub read_all : (text : Text) (start count : ℕ) (said : SoFar) → IsReadUpTo text start count said → length text ≤ start → IsScenarioRead text said
+pub read_all : (text : Text) (start count : ℕ) (said : SoFar) → IsReadUpTo text start count said → length text ≤ start
+    → IsScenarioRead text said
 read_all text start count said before end =
     let none : drop count (lines text) ≡ [] = before.left ∙ ap lines (drop_all start text end) in
     let short : length (lines text) ≤ count = omega (arith, length-drop count (lines text), ap length none) in

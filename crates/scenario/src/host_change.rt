@@ -11,9 +11,9 @@ use crate::refusal::Fault;
 use crate::tick_word::host_named;
 use arrayvec::ArrayVec;
 use bring_up::Config;
-use registers::Image;
 use network_plan::HostPlan;
 use packet_socket::SocketKind;
+use registers::Image;
 use std::alloc::{AllocError, Global};
 
 /// An item of a host: a group, a VLAN or a socket.

@@ -131,7 +131,8 @@ pub front_played : (events : List Event) (done : ℕ) (a b : Play) → done < le
 front_played events done a b left told sound = record {
   first = map command_of_event (take done events);
   left = map command_of_event (drop done events);
-  parts = ap (map command_of_event) (sym (take-append-drop done events)) ∙ map-append command_of_event (take done events) (drop done events);
+  parts = ap (map command_of_event) (sym (take-append-drop done events))
+      ∙ map-append command_of_event (take done events) (drop done events);
   some = omega (arith, left, length-map (drop done events) command_of_event, length-drop done events);
   played = played (take done events) a b told sound;
 }
@@ -257,7 +258,8 @@ send_stops hosts sender frame one a b error is stops =
 
 pub behind_stops : (hosts : List Host) (sender : ℕ) (frame : List ℕ) (one : Said) (events : List Event) (a b c : Play)
     (error : BenchError) → one ≡ Sends sender frame [] → HasPlayed (one ∷ []) a b
-    → map command_of_event events ≡ behind_send hosts sender (pieces_for (length frame)) → StopsWithin (map command_of_event events) b c error
+    → map command_of_event events ≡ behind_send hosts sender (pieces_for (length frame))
+    → StopsWithin (map command_of_event events) b c error
     → StopsWithin (fed hosts sender frame) a c error
 behind_stops hosts sender frame one events a b c error is first follows stops =
     stops_behind (fed hosts sender frame) (one ∷ []) (map command_of_event events) [] a b c error

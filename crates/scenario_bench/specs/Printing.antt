@@ -18,12 +18,14 @@ exact_word false = codes " atleast"
 -- no reset
 abbrev pub resets_text : Option GivenUp → List ℕ
 resets_text None = []
-resets_text (Some told) = summary_field (codes " givenup ") told.sending ++ summary_field (codes " ") told.holding ++ summary_field (codes " off ") told.off
+resets_text (Some told) = summary_field (codes " givenup ") told.sending ++ summary_field (codes " ") told.holding
+    ++ summary_field (codes " off ") told.off
 
 -- the part of a host's line after its name
 abbrev pub host_fields : HostSummary → List ℕ
 host_fields host =
-    summary_field (codes " accepted ") host.accepted ++ summary_field (codes " put ") host.put ++ summary_field (codes " reached ") host.reached
+    summary_field (codes " accepted ") host.accepted ++ summary_field (codes " put ") host.put
+    ++ summary_field (codes " reached ") host.reached
     ++ summary_field (codes " stored ") host.stored ++ summary_field (codes " missed ") host.missed ++ exact_word host.exact
     ++ summary_field (codes " given ") host.given ++ summary_field (codes " unclaimed ") host.unclaimed ++ resets_text host.given_up
     ++ codes "\n"

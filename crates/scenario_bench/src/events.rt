@@ -10,8 +10,8 @@ ghost use Rattle.stations.specs.declared.tick.Tick.TheVariants as ticks;
 use adapter::StepKind;
 use descriptors::{LONGEST_LEGAL, SHORTEST_LEGAL};
 use dma_memory::RECEIVE_BUFFER_BYTES;
-use registers::Image;
 use network_plan::{Event, HostPlan};
+use registers::Image;
 use run_record::wire_of;
 use stations::Tick;
 use std::alloc::{AllocError, Global};
@@ -61,7 +61,8 @@ fn push_event(events: &mut Vec<Event>, event: Event) -> Result<(), AllocError>
 /// Appends the steps that move this number of pieces of a frame to a host's memory: RxData and RxDone for each piece.
 fn push_moves(host: usize, pieces: usize, events: &mut Vec<Event>) -> Result<(), AllocError>
     ensures { OnOk result
-        (map command_of_event events.new.items ≡ map command_of_event events.old.items ++ lists.moves_of_pieces host pieces) }
+        (map command_of_event events.new.items ≡
+        map command_of_event events.old.items ++ lists.moves_of_pieces host pieces) }
 {
     for _piece in 0..pieces {
         push_event(events, step_event(host, StepKind::RxData))?;
@@ -80,7 +81,8 @@ fn push_arrival(
     events: &mut Vec<Event>,
 ) -> Result<(), AllocError>
     ensures { OnOk result
-        (map command_of_event events.new.items ≡ map command_of_event events.old.items ++ lists.arrival_at pieces host sockets) }
+        (map command_of_event events.new.items ≡
+        map command_of_event events.old.items ++ lists.arrival_at pieces host sockets) }
 {
     push_event(events, Event::Tick(Tick::Deliver(host)))?;
     push_moves(host, pieces, events)?;
@@ -259,7 +261,8 @@ impl EventMemory {
     /// Returns the event of one of the eight kinds that `auto` draws, at a host with this EEPROM. Each number from 7 on
     /// is the last kind, a send. A send's frame and an interrupt's ticks use this memory.
     fn event_of_kind(&mut self, kind: u32, host: usize, image: &Image) -> Result<Event, AllocError>
-        ensures { IfOk result (λ event. command_of_event event ≡ lists.event_of_kind kind host (address_bytes image.now)) }
+        ensures { IfOk result
+            (λ event. command_of_event event ≡ lists.event_of_kind kind host (address_bytes image.now)) }
     {
         match kind {
             0 => Ok(step_event(host, StepKind::TxTake)),

@@ -9,7 +9,8 @@ ghost use Rattle.scenario_bench.specs.Benches.{IsFailedSink, scenario_events, si
 ghost use Rattle.scenario_bench.specs.EventLists as lists;
 ghost use Rattle.run_record.specs.EventLogView.{plan_name};
 ghost use Rattle.scenario_bench.specs.Given.{sockets_from};
-ghost use Rattle.scenario_bench.specs.PlayedEvents.{AreOfSender, AreRecorded, HasBegunPlay, HasPlayed, HasPlayedScenario};
+ghost use Rattle.scenario_bench.specs.PlayedEvents.{AreOfSender, AreRecorded, HasBegunPlay};
+ghost use Rattle.scenario_bench.specs.PlayedEvents.{HasPlayed, HasPlayedScenario};
 ghost use Rattle.run_record.specs.Recording.{IsNewRecord};
 ghost use Rattle.scenario_bench.specs.PlayedEvents.{StopsAtPlan, StopsWithin, TellTallies, TellsTally, trace_frames};
 ghost use Rattle.scenario_bench.specs.PlayedEvents.{socket_texts_in, wire_texts_in};

@@ -2,7 +2,8 @@
 ghost use Rattle.std.specs.Prelude.{◌≡◌, ◌<◌, ◌≤◌, ◌+◌, ◌++◌, length, OnErr, OnOk};
 ghost use Rattle.std.specs.Io.KnownBytes.{Appends};
 ghost use Rattle.pcap_trace.specs.Devices.{AppendsFront, CountsFailures};
-ghost use Rattle.scenario_bench.specs.Printing.{exact_word, summary_field, host_fields, host_line, resets_text, summary_text};
+ghost use Rattle.scenario_bench.specs.Printing.{exact_word, summary_field, host_fields};
+ghost use Rattle.scenario_bench.specs.Printing.{host_line, resets_text, summary_text};
 
 use crate::summary::{HostSummary, Summary};
 use arrayvec::ArrayVec;

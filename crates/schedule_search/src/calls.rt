@@ -27,8 +27,8 @@ pub const REMOVED: u32 = 1;
 /// The number of [`Step::Ended`].
 pub const ENDED: u32 = 2;
 
-/// Begins a search of the schedules whose deviations cost at most `depth` in total, and `cost` each. Clears the table of
-/// known states. The path is then empty.
+/// Begins a search of the schedules whose deviations cost at most `depth` in total, and `cost` each. Clears the table
+/// of known states. The path is then empty.
 #[unsafe(no_mangle)]
 pub extern "C" fn schedule_search_begin(
     search: &mut Search,

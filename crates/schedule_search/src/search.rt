@@ -45,8 +45,8 @@ pub enum Step {
     Ended,
 }
 
-/// Begins a search of the schedules whose deviations cost at most `depth` in total, and `cost` each. Clears the table of
-/// known states. The path of the new search is empty.
+/// Begins a search of the schedules whose deviations cost at most `depth` in total, and `cost` each. Clears the table
+/// of known states. The path of the new search is empty.
 pub fn begin(depth: u32, cost: u32, known: &mut [Known]) -> Search
     ensures search { (test : Test) (path : List Choice) → IsSearch test result path known.new }
     ensures begins { result ≡ record { depth = depth; cost = cost; count = 0; failing = 0 } }

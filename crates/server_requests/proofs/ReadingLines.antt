@@ -9,7 +9,8 @@ use Rattle.std.proofs.lemmas.List.Elements.{All-head, All-tail}
 use Rattle.std.specs.Prelude.{slice_index}
 use Rattle.std.specs.Io.KnownBytes.{Consumes, Keeps}
 use Rattle.server_requests.specs.Lines.{behind_line, first_line, is_feed, lines_of, most_line_bytes, with_front}
-use Rattle.server_requests.specs.LinesRead.{Adds, AtEnd, BothKnown, IsRestOfLine, GoesOn, IsLong, IsNextLine, IsWholeLine, TakesPart, kept_as}
+use Rattle.server_requests.specs.LinesRead.{Adds, AtEnd, BothKnown, IsRestOfLine, GoesOn}
+use Rattle.server_requests.specs.LinesRead.{IsLong, IsNextLine, IsWholeLine, TakesPart, kept_as}
 use Rattle.server_requests.specs.Texts.{Text}
 use Rattle.server_requests.specs.declared.line_reader.NextLine.TheVariants.{End}
 use Rattle.server_requests.specs.declared.line_reader.Part.TheVariants as parts

@@ -68,7 +68,8 @@ base64_in word = bytes_or_refusal (decode_of standard word)
 
 -- the bytes that the hexadecimal digits after 0x spell, or the refusal `value`; a word that doesn't begin with 0x is refused
 abbrev pub prefixed_bytes_in : Text → Result (List ℕ) Refusal
-prefixed_bytes_in word = if has_x word then (if begins_0x word then bytes_spelled (behind_0x word) else Err refusals.Value) else Err refusals.Value
+prefixed_bytes_in word =
+    if has_x word then (if begins_0x word then bytes_spelled (behind_0x word) else Err refusals.Value) else Err refusals.Value
 
 -- the bytes that a word spells in this encoding, or the refusal `value`
 abbrev pub payload_in : Encoding → Text → Result (List ℕ) Refusal

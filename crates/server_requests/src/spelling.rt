@@ -62,7 +62,8 @@ fn base64_at(alloc: Global, text: &str) -> Result<Payload, Stop>
     }
 }
 
-/// Returns the bytes that pairs of hexadecimal digits after `0x` spell. Refuses a word that isn't `0x` and such pairs.
+/// Returns the bytes that pairs of hexadecimal digits after `0x` spell: none for the word `0x`. Refuses a word that
+/// isn't `0x` and such pairs.
 fn prefixed_bytes_at(alloc: Global, text: &str) -> Result<Payload, Stop>
     ensures { Gives result (prefixed_bytes_in text.now) }
 {

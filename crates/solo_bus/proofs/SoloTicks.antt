@@ -128,12 +128,14 @@ pub record PlaysOn (plays waits : List SoloTick → List SoloTick) (a s : SoloSt
 pub group_goes_on : GoesOn (group_of is_solo_go) (behind_group is_solo_go)
 group_goes_on = record { played = played; left = left }
   where
-    played : (tick : SoloTick) (later : List SoloTick) → is_solo_go tick ≡ false → group_of is_solo_go (tick ∷ later) ≡ tick ∷ group_of is_solo_go later
+    played : (tick : SoloTick) (later : List SoloTick) → is_solo_go tick ≡ false
+        → group_of is_solo_go (tick ∷ later) ≡ tick ∷ group_of is_solo_go later
     played Go later is = absurd (cc)
     played (Step kind) later is = refl
     played (Arrive frame) later is = refl
 
-    left : (tick : SoloTick) (later : List SoloTick) → is_solo_go tick ≡ false → behind_group is_solo_go (tick ∷ later) ≡ behind_group is_solo_go later
+    left : (tick : SoloTick) (later : List SoloTick) → is_solo_go tick ≡ false
+        → behind_group is_solo_go (tick ∷ later) ≡ behind_group is_solo_go later
     left Go later is = absurd (cc)
     left (Step kind) later is = refl
     left (Arrive frame) later is = refl
@@ -154,7 +156,8 @@ all_go_on = record { played = played; left = λ tick later is. refl }
 -- The loop plays one more tick, the first one that waits.
 on_more :
     (plays waits : List SoloTick → List SoloTick) (a s b : SoloState) (tick : SoloTick) (left : List SoloTick) → GoesOn plays waits
-    → PlaysOn plays waits a s → is_solo_go tick ≡ false → s.waiting ≡ tick ∷ left → b.waiting ≡ left → PlaysSoloTicks (tick ∷ []) b.waiting s b
+    → PlaysOn plays waits a s → is_solo_go tick ≡ false → s.waiting ≡ tick ∷ left → b.waiting ≡ left
+    → PlaysSoloTicks (tick ∷ []) b.waiting s b
     → PlaysOn plays waits a b
 on_more plays waits a s b tick left on before isnt front behind one = record {
   ticks = before.ticks ++ tick ∷ [];
@@ -227,7 +230,8 @@ pub prepared_on :
 prepared_on a m g b own group is =
     let group_a : PlaysSoloTicks (group_of is_solo_go a.waiting) (behind_group is_solo_go a.waiting) m g = subst
     (λ (ticks : List SoloTick). PlaysSoloTicks (group_of is_solo_go ticks) (behind_group is_solo_go ticks) m g) own.waiting group in
-    let whole = plays_trans (lively_ticks a.lively) (group_of is_solo_go a.waiting) a.waiting (behind_group is_solo_go a.waiting) a m g own group_a in
+    let whole =
+    plays_trans (lively_ticks a.lively) (group_of is_solo_go a.waiting) a.waiting (behind_group is_solo_go a.waiting) a m g own group_a in
     subst (λ (x : SoloState). Prepared a x) (sym is) (record {
       plays = record {
         events = whole.events;

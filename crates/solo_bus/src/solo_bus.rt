@@ -186,8 +186,8 @@ impl SoloBus {
     /// Plays the ticks up to the next [`Go`](SoloTick::Go), and removes these ticks and this `Go`. If no `Go` waits,
     /// plays and removes all ticks.
     fn play_group(&mut self)
-        ensures { PlaysSoloTicks (group_of is_solo_go self.old.waiting) (behind_group is_solo_go self.old.waiting) self.old
-            self.new }
+        ensures { PlaysSoloTicks (group_of is_solo_go self.old.waiting) (behind_group is_solo_go self.old.waiting)
+            self.old self.new }
     {
         while let Some(tick) = self.next_tick() {
             match tick {

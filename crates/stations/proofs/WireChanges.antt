@@ -120,7 +120,8 @@ line-own : (sender wire : ℕ) (frames : List (List ℕ)) (k : ℕ) (end : EndSt
 line-own sender wire frames k end same =
     ap (λ (b : Bool). if not b && (end.wire == wire) then record end { backlog = end.backlog ++ frames } else end) (equal k sender same)
 
-line-off : (sender wire : ℕ) (frames : List (List ℕ)) (k : ℕ) (end : EndState) → end.wire ≢ wire → end_after_put sender wire frames k end ≡ end
+line-off : (sender wire : ℕ) (frames : List (List ℕ)) (k : ℕ) (end : EndState) → end.wire ≢ wire
+    → end_after_put sender wire frames k end ≡ end
 line-off sender wire frames k end off = by_case (not (k == sender))
   where
     by_case : (b : Bool) → (if b && (end.wire == wire) then record end { backlog = end.backlog ++ frames } else end) ≡ end

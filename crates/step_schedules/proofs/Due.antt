@@ -57,7 +57,8 @@ chosen_here true w later action number same is =
     subst (λ (a : Option Action). number ≡ chosen (with_next [] a ++ map action_of later)) (sym same) (is (map action_of later))
 chosen_here false w later action number same is = absurd (cc)
 
-pub chosen_at : (event : EventValue) (before : List WaitingValue) (w : WaitingValue) (later : List WaitingValue) (action : Action) (number : ℕ)
+pub chosen_at : (event : EventValue) (before : List WaitingValue) (w : WaitingValue) (later : List WaitingValue) (action : Action)
+    (number : ℕ)
     → due_before event before ≡ [] → due_action event w ≡ Some action → ((rest : List Action) → number ≡ chosen (action ∷ rest))
     → number ≡ chosen (due_before event (before ++ w ∷ later))
 chosen_at event before w later action number none same is =

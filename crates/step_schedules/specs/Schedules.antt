@@ -91,7 +91,8 @@ Becomes (Ok u) read after = read ≡ Ok after
 Becomes (Err stop) read after = FailsLine stop read
 
 -- the result of reading a line and the lines after it, or the number and the fault of the line if it is faulty
-abbrev pub then_rest : Result ScheduleSoFar Fault → (number : ℕ) → (ScheduleSoFar → Result ScheduleSoFar (ℕ × Fault)) → Result ScheduleSoFar (ℕ × Fault)
+abbrev pub then_rest : Result ScheduleSoFar Fault → (number : ℕ) → (ScheduleSoFar → Result ScheduleSoFar (ℕ × Fault))
+    → Result ScheduleSoFar (ℕ × Fault)
 then_rest (Ok after) number rest = rest after
 then_rest (Err fault) number rest = Err (number, fault)
 

@@ -95,7 +95,8 @@ impl Reader {
 
     /// Reads a line.
     fn read_line(&mut self, alloc: Global, line: &str) -> Result<(), Stop>
-        ensures { spec.Becomes result (spec.after_schedule_line line.now (spec.schedule_so_far self.old)) (spec.schedule_so_far self.new) }
+        ensures { spec.Becomes result (spec.after_schedule_line line.now (spec.schedule_so_far self.old))
+            (spec.schedule_so_far self.new) }
     {
         let words = words_in(alloc, line)?;
         self.read_words(alloc, words.as_slice())

@@ -61,7 +61,8 @@ impl Waiting {
 
     /// Counts an event that comes now, if the deviation matches it.
     fn count(&mut self, event: &Event<'_>)
-        ensures { spec.waiting_value self.new ≡ spec.event_counted (event_value event.now) (spec.waiting_value self.old) }
+        ensures { spec.waiting_value self.new ≡
+            spec.event_counted (event_value event.now) (spec.waiting_value self.old) }
     {
         if event.is_met_by(&self.deviation) {
             self.left = self.left.saturating_sub(1);

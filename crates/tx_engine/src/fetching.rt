@@ -46,7 +46,8 @@ fn descriptor_at_head(ring: &Ring, memory: &HostMemory) -> Option<(u64, TxDesc)>
     ensures lies { IsSome result ↔ LiesIn memory.now (address_of ring.now ring.now.head) 16 }
     ensures address { IfSome result (λ found. found.0 ≡ address_of ring.now ring.now.head) }
     ensures fits { IfSome result (λ found. found.0 + 12 < 2 ^ 64) }
-    ensures value { IfSome result (λ found. found.1 ≡ transmit_descriptor_at memory.now (address_of ring.now ring.now.head)) }
+    ensures value { IfSome result
+        (λ found. found.1 ≡ transmit_descriptor_at memory.now (address_of ring.now ring.now.head)) }
 {
     let size = memory.size();
     let address = ring.descriptor(ring.head)?;

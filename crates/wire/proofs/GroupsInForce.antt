@@ -118,10 +118,12 @@ only-ticks : (caller : ℕ) (steps : List AtomicStep) (a b : List StationState) 
 only-ticks caller [] a b leads none = all-none IsTick
 only-ticks caller (At host (Steps kind wire_free answer) ∷ later) a b leads none =
     let step = At host (Steps kind wire_free answer) in
-    All-cons IsTick step later tt (only-ticks caller later (after_atomic step a) b leads.2 (sym (tick-accesses caller step later tt) ∙ none))
+    All-cons IsTick step later tt (only-ticks caller later (after_atomic step a) b leads.2
+    (sym (tick-accesses caller step later tt) ∙ none))
 only-ticks caller (At host (Arrives frame fate) ∷ later) a b leads none =
     let step = At host (Arrives frame fate) in
-    All-cons IsTick step later tt (only-ticks caller later (after_atomic step a) b leads.2 (sym (tick-accesses caller step later tt) ∙ none))
+    All-cons IsTick step later tt (only-ticks caller later (after_atomic step a) b leads.2
+    (sym (tick-accesses caller step later tt) ∙ none))
 only-ticks caller (Idles tick ∷ later) a b leads none =
     All-cons IsTick (Idles tick) later leads.1 (only-ticks caller later a b leads.2 none)
 only-ticks caller (At host (Accesses access) ∷ later) a b leads none =

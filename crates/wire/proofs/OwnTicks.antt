@@ -10,7 +10,8 @@ use Rattle.registers.specs.declared.phy.Link.TheVariants.{Never}
 use Rattle.registers.specs.declared.phy.Negotiation.{Negotiation}
 use Rattle.registers.specs.declared.phy.Negotiation.TheVariants.{NotStarted}
 use Rattle.registers.specs.Mdic.{data_bits, phy_ended, reaches_phy, regadd, told}
-use Rattle.registers.specs.Phy.{PhyState, after_control, phy_after_read, after_tick, phy_after_write, counted_down, negotiation_of, new_phy, restarted}
+use Rattle.registers.specs.Phy.{PhyState, after_control, phy_after_read, after_tick, phy_after_write}
+use Rattle.registers.specs.Phy.{counted_down, negotiation_of, new_phy, restarted}
 use Rattle.registers.specs.PhyPlaces.{control_enable, control_reset, control_restart}
 use Rattle.registers.specs.Bits.{is_set}
 use Rattle.adapter.specs.Registers.{after_reset, by_row, by_rule, is_reset, left_by_read, left_by_write, with_register}

@@ -14,9 +14,9 @@ use arrayvec::ArrayVec;
 use bring_up::InitError;
 use bus::{LivelyBus, Machine};
 use dma_memory::HostMemory;
-use registers::Image;
 use network_plan::{HostPlan, MOST_SOCKETS};
 use packet_socket::{Host, SocketKind};
+use registers::Image;
 use std::alloc::Global;
 
 /// Makes a host's adapter, and its memory with the layout's size, and initializes the adapter. Before each access of
@@ -69,7 +69,7 @@ fn host_over(alloc: Global, plan: &HostPlan, machine: &mut Machine) -> Result<Ho
 ///
 /// # Errors
 ///
-/// Only [`Memory`](InitError::Memory).
+/// Only [`Memory`](InitError::Memory): a plan with `HasConfig` has a layout.
 fn machine_of(alloc: Global, plan: &HostPlan) -> Result<Machine, InitError>
     requires { HasConfig plan.now }
     ensures adapter { IfOk result (λ machine. machine.world.adapter ≡ new_adapter plan.now.image plan.now.link) }

@@ -13,7 +13,8 @@ returns-in-Port g c =
     rw c.in-Port.is
     (replied c.say_number.result _ a _ _
     (rw (c.from.ensures ∙ c.read_port-value.ensures
-    ∙ ap (λ asserted. port_answer c.in-Port.port c.in-Port.width asserted a.function) c.line-asserted.ensures.line) at c.say_number.ensures))
+    ∙ ap (λ asserted. port_answer c.in-Port.port c.in-Port.width asserted a.function) c.line-asserted.ensures.line) at
+    c.say_number.ensures))
 
 pub returns-in-Endianness : goal.returns-in-Endianness
 returns-in-Endianness g c =

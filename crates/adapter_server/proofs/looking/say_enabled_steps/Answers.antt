@@ -16,7 +16,8 @@ returns g c =
     (λ b text replies. record {
       works = works;
       each = for_each (λ kind works. TellsWork kind works a.device.machine.world.adapter) c.has_work.result c.has_work-2.result
-          c.has_work-3.result c.has_work-4.result c.has_work-5.result c.has_work-6.result c.has_work.ensures.work c.has_work-2.ensures.work c.has_work-3.ensures.work
+          c.has_work-3.result c.has_work-4.result c.has_work-5.result c.has_work-6.result c.has_work.ensures.work c.has_work-2.ensures.work
+          c.has_work-3.ensures.work
           c.has_work-4.ensures.work c.has_work-5.ensures.work c.has_work-6.ensures.work;
       replies = replies;
     }) (replied c.say_enabled.result line a _ _ c.say_enabled.ensures)

@@ -11,7 +11,8 @@ pub loop-buffer-init : goal.loop-buffer-init
 loop-buffer-init c = record { same = λ k. refl; buffers = refl; capacity = refl }
 
 left : (c : In-Some)
-    → Splits (c.args.pool.now.free ++ c.args.buffers.now.items) c.in-Some.buffer (drop 1 c.loop-buffer.buffers.items) c.loop-buffer.pool.free
+    → Splits (c.args.pool.now.free ++ c.args.buffers.now.items) c.in-Some.buffer (drop 1 c.loop-buffer.buffers.items)
+    c.loop-buffer.pool.free
 left c = splits-queue _ c.loop-buffer.buffers.items _ c.in-Some.ensures.value c.loop-buffer.invariant.same
 
 pub give-requires : goal.give-requires

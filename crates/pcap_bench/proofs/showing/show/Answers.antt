@@ -13,7 +13,8 @@ returns-in_err-write_frame-clause-err g c =
     let rest = shown_frames (c.loop-frame.next + 1) c.next.new.self ++ end_line c.args.trace.now in
     let sent = SentUpTo-frame a b (shown_trace c.args.trace.now) (end_line c.args.trace.now) c.loop-frame.next c.loop-frame.frame-iterator
     c.next.new.self c.in-Some.frame.now c.in-Some.ensures.steps c.loop-frame.invariant.sent in
-    rw p.1 (SentUpTo-stops_within a b (g.W.Sink.taken c.write_frame.new.sink) (shown_trace c.args.trace.now) (shown_frame c.loop-frame.next c.in-Some.frame.now) rest sent
+    rw p.1 (SentUpTo-stops_within a b (g.W.Sink.taken c.write_frame.new.sink) (shown_trace c.args.trace.now)
+    (shown_frame c.loop-frame.next c.in-Some.frame.now) rest sent
     c.in_err-write_frame.ensures.err)
 
 pub loop-frame-preserved : goal.loop-frame-preserved

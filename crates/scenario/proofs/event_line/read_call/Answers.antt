@@ -50,7 +50,8 @@ returns c =
     let call = c.in_ok-host.ensures.ok in
     let hosts = ap hosts_of c.hosts.ensures in
     let name = c.word_at.ensures ∙ ap (word 1) c.split_at_word.ensures.before in
-    line-said-by (line.Call c.args.kind) before (so_far c.say.new.scenario) (saying (command_of_event c.event.result) before) words c.say.result
+    line-said-by (line.Call c.args.kind) before (so_far c.say.new.scenario) (saying (command_of_event c.event.result) before) words
+    c.say.result
     (record {
       count = count;
       values = (

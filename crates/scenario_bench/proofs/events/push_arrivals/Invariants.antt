@@ -9,4 +9,5 @@ use Rattle.scenario_bench.proofs.events.push_arrivals.Given as goal
 abbrev pub invariant-loop-number : goal.invariant-loop-number
 invariant-loop-number l = map command_of_event l.events.items
     ++ arrivals_from l.pieces l.number l.sender (wire_name_of (hosts_of l.plans) l.sender) (hosts_of (drop l.number l.plans))
-    ≡ map command_of_event l.fn.events.items ++ arrivals_from l.pieces 0 l.sender (wire_name_of (hosts_of l.plans) l.sender) (hosts_of l.plans)
+    ≡ map command_of_event l.fn.events.items
+    ++ arrivals_from l.pieces 0 l.sender (wire_name_of (hosts_of l.plans) l.sender) (hosts_of l.plans)

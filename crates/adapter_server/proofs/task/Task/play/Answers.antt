@@ -37,7 +37,8 @@ returns-in-Step-clause-plays g c =
 
 pub returns-in-Arrive-clause-plays : goal.returns-in-Arrive-clause-plays
 returns-in-Arrive-clause-plays g c =
-    rw c.in-Arrive.is (tells_so g.O.Observer.heard _ _ _ _ (λ told plays. (c.serve_arrival-fate.result, ap word_line c.fate_word.ensures, plays))
+    rw c.in-Arrive.is (tells_so g.O.Observer.heard _ _ _ _
+    (λ told plays. (c.serve_arrival-fate.result, ap word_line c.fate_word.ensures, plays))
     c.serve_arrival-fate.ensures)
 
 pub returns-in-Settle-clause-plays : goal.returns-in-Settle-clause-plays
@@ -64,9 +65,11 @@ returns-in-Err-clause-plays g c =
 
 pub returns-in-Choose-clause-plays : goal.returns-in-Choose-clause-plays
 returns-in-Choose-clause-plays g c =
-    rw c.in-Choose.is (tells_so g.O.Observer.heard _ _ _ _ (λ told plays. (c.serve_choose-number.result, ap number_line c.from.ensures, plays))
+    rw c.in-Choose.is (tells_so g.O.Observer.heard _ _ _ _
+    (λ told plays. (c.serve_choose-number.result, ap number_line c.from.ensures, plays))
     c.serve_choose-number.ensures.tells)
 
 pub returns-in-SetClock-clause-plays : goal.returns-in-SetClock-clause-plays
 returns-in-SetClock-clause-plays g c =
-    rw c.in-SetClock.is (tells_so g.O.Observer.heard _ _ _ _ (λ told plays. (c.serve_settle-moved.result, refl, plays)) c.serve_settle-moved.ensures)
+    rw c.in-SetClock.is (tells_so g.O.Observer.heard _ _ _ _ (λ told plays. (c.serve_settle-moved.result, refl, plays))
+    c.serve_settle-moved.ensures)

@@ -20,7 +20,8 @@ returns-clause-plays g c =
     let moves : tick_moves c.held.result a ++ due ≡ access_moves c.args.before c.args.name.now c.args.agenda.now a
     = ap (λ (ws : List WaitingValue). tick_moves c.held.result a ++ flat_map moves_of (due_before event ws)) c.waiting.ensures
     ∙ ap (λ (held : Held). tick_moves held a ++ flat_map moves_of (due_before event waiting)) c.held.ensures
-    ∙ ap (λ (e : EventValue). tick_moves (default_steps_held (due_before e waiting) c.args.agenda.now) a ++ flat_map moves_of (due_before e waiting))
+    ∙ ap (λ (e : EventValue). tick_moves (default_steps_held (due_before e waiting) c.args.agenda.now) a
+    ++ flat_map moves_of (due_before e waiting))
     c.coming-event.ensures in
     subst (λ (ms : List Move). Tells heard c.args.observer.now c.make_due.new.observer (InOrder Makes ms a c.make_due.new.self)) moves
     (tells_joined Makes heard g.met.O.Observer.composes (tick_moves c.held.result a) due a c.make_ticks.new.self c.make_due.new.self

@@ -23,7 +23,8 @@ loop-kind-preserved g c =
     let outcome = c.step-outcome.result in
     let more = c.loop-kind.moved + c.moved_by-moved.result in
     let plays = tells_so heard (Steps kind outcome c.loop-kind.self c.step-outcome.new.self)
-    (PlaysStepOfKind kind (c.loop-kind.self, c.loop-kind.moved) (c.step-outcome.new.self, more)) c.loop-kind.observer c.step-outcome.new.observer
+    (PlaysStepOfKind kind (c.loop-kind.self, c.loop-kind.moved) (c.step-outcome.new.self, more)) c.loop-kind.observer
+    c.step-outcome.new.observer
     (λ told steps. record { outcome = outcome; steps = steps; count = ap (◌+◌ c.loop-kind.moved) c.moved_by-moved.ensures })
     c.step-outcome.ensures in
     let kinds : take i all ++ kind ∷ [] ≡ take (i + 1) all = sym (take_more all i TxTake c.loop-kind-test.true) in

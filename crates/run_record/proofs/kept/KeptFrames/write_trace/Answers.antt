@@ -62,7 +62,8 @@ loop-info-preserved-then-not-wants g c =
     record {
       quiet = c.loop-info.invariant.quiet;
       written = puts-passed (is_in_trace c.args.traces.now c.args.trace) c.args.unit c.args.self.now
-          (get_or infos place no-info) (drop (place + 1) infos) (drop place infos) c.loop-info.bytes.now c.split_at.result.1.now (g.W.Sink.taken c.args.sink.now)
+          (get_or infos place no-info) (drop (place + 1) infos) (drop place infos) c.loop-info.bytes.now c.split_at.result.1.now
+          (g.W.Sink.taken c.args.sink.now)
           (g.W.Sink.taken c.loop-info.sink) c.loop-info.writer (next infos place (omega arith)) c.split_at.ensures.back
           (sym c.wants.ensures ∙ c.if-not-wants.true) c.loop-info.invariant.written;
     }
@@ -81,7 +82,8 @@ returns-clause-ok g c =
     on_ok_weaker c.flush.result
     (λ (went : Appends (g.W.Sink.taken c.loop-info.sink) (g.W.Sink.taken c.flush.new.sink) c.loop-info.writer).
     puts-ends (is_in_trace c.args.traces.now c.args.trace) c.args.unit c.args.self.now (drop c.loop-info.info-index infos)
-    c.loop-info.bytes.now (g.W.Sink.taken c.args.sink.now) (g.W.Sink.taken c.loop-info.sink) (g.W.Sink.taken c.flush.new.sink) c.loop-info.writer
+    c.loop-info.bytes.now (g.W.Sink.taken c.args.sink.now) (g.W.Sink.taken c.loop-info.sink) (g.W.Sink.taken c.flush.new.sink)
+    c.loop-info.writer
     (drop_of_length-le infos (omega arith)) c.loop-info.invariant.written went)
     c.flush.ensures.ok
 

@@ -12,7 +12,8 @@ loop-tick-preserved-in-Step c =
 
 pub loop-tick-preserved : goal.loop-tick-preserved
 loop-tick-preserved c =
-    arrive_on (without_go is_solo_go) none_left _ c.loop-tick.self c.next_tick.new.self c.arrive.new.self c.in-Arrive.frame c.as_slice.result.now
+    arrive_on (without_go is_solo_go) none_left _ c.loop-tick.self c.next_tick.new.self c.arrive.new.self c.in-Arrive.frame
+    c.as_slice.result.now
     c.arrive.result c.next_tick.result c.in-Some.tick all_go_on c.loop-tick.invariant c.next_tick.ensures.next c.in-Some.is
     c.in-Arrive.is c.as_slice.ensures.value c.next_tick.ensures.state c.arrive.ensures.running c.arrive.ensures.fate
     c.arrive.ensures.state

@@ -43,5 +43,6 @@ returns-in-Tick-clause-ok g c =
       told = told.told;
       holds =
           event-runs c.self.view_is (sym c.of.ensures ∙ ap part_in c.in-Tick.is)
-          (tick-runs-as c.self.inside.network c.tick.new.network c.in-Tick.tick told.reply c.tick.ensures.hosts c.self.invariant told.holds);
+          (tick-runs-as c.self.inside.network c.tick.new.network c.in-Tick.tick told.reply c.tick.ensures.hosts c.self.invariant
+          told.holds);
     }
