@@ -16,6 +16,7 @@ use server_requests::{MOST_LINE_BYTES, NextLine, next_line};
 use std::alloc::Global;
 use std::io::{BufRead, Write};
 use step_schedules::Player;
+use text::MOST_TURNS;
 
 /// Writes the answer to a line, and flushes the output. At the end of the input, only flushes the output.
 fn answer_and_send<W: Write>(
@@ -48,14 +49,13 @@ fn serve_lines<R: BufRead, W: Write>(
         WritesText (W.contents output.old) (W.contents output.new) (ServesBegun bytes server.old))) }
 {
     let mut line = Vec::with_capacity(alloc, MOST_LINE_BYTES)?;
-    for _count in 0..u64::MAX {
+    for _count in 0..MOST_TURNS {
         let next = next_line(input, &mut line)?;
         if let NextLine::End = next {
             return Ok(());
         }
         answer_and_send(server, alloc, output, next, line.as_slice())?;
     }
-    // 2^64 - 1 lines were served, and the rest of the input wasn't read.
     Err(ServeError::Read)
 }
 
@@ -76,10 +76,9 @@ fn serve_lines<R: BufRead, W: Write>(
 ///
 /// # Errors
 ///
-/// `Memory` if memory was refused. `Read` if reading failed, or after 2^64 - 1 lines or reads of one line. `Write` if
-/// writing failed, if the writer took no byte, or after 2^64 - 1 writes of one text. At each error, the first n lines
-/// were answered in full, in order, for some n. After `Read`, nothing else was written. After `Memory` or `Write`, a
-/// beginning of the next answer may have been written.
+/// `Memory` if memory was refused. `Read` if reading failed. `Write` if writing failed, or if the writer took no byte.
+/// At each error, the first n lines were answered in full, in order, for some n. After `Read`, nothing else was
+/// written. After `Memory` or `Write`, a beginning of the next answer may have been written.
 #[tactic(auto, using(crate::proofs::ServedLines::never_read))]
 pub fn serve<R: BufRead + Drop, W: Write>(
     alloc: Global,

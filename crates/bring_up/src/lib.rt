@@ -33,8 +33,8 @@ pub use init_error::InitError;
 pub use link::{await_link, negotiate};
 pub use resting_law::{drivers_begin_again, drivers_begin_at_rest, drivers_without_frames_stay_so};
 pub use ring_registers::{
-    RingPlace, disable_receiver, enable_receiver, enable_transmitter, set_receive_ring,
-    set_transmit_ring,
+    FilterModes, RingPlace, disable_receiver, enable_receiver, enable_transmitter,
+    set_receive_ring, set_transmit_ring,
 };
 
 /// The number of reads of a register after which a driver gives up (our choice).

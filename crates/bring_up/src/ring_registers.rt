@@ -101,31 +101,39 @@ pub fn disable_receiver<B: Bus>(bus: &mut B)
     bus.write(RCTL, 0);
 }
 
-/// Enables the receiver, with broadcast frames and buffers of 256 bytes. If `promiscuous` is true, frames to every
-/// destination pass the filter. If `by_vlan` is true, a tagged frame passes only if its VLAN is in the VLAN table. Let
-/// a driver be ready with its transmit side off, RCTL.EN be 0, and no frame be held. Then the driver remains ready, and
-/// no frame is held after the write.
-pub fn enable_receiver<B: Bus>(bus: &mut B, promiscuous: bool, by_vlan: bool)
-    ensures keeps { Keeps B.Bus bus.old bus.new }
-    ensures sets { B.honest bus.old → SetsOnly B.Bus (receive_writes promiscuous by_vlan) bus.old bus.new }
-    ensures ran { (d : DriverState) → IsReadyOver B.Bus false (at bus.old d) → ReceiverIsOff d (B.world bus.old)
-        → LetsFramesIn B.Bus (receive_writes promiscuous by_vlan) d bus.old bus.new }
-{
-    bus.write(RCTL, receive_control(promiscuous, by_vlan));
+/// Which frames pass the receive filter, apart from the addresses and groups in its tables.
+#[derive(Clone, Copy)]
+pub struct FilterModes {
+    /// Frames to every destination pass.
+    pub promiscuous: bool,
+    /// A tagged frame passes only if its VLAN is in the VLAN table.
+    pub by_vlan: bool,
 }
 
-/// Returns the value of RCTL that enables the receiver.
-fn receive_control(promiscuous: bool, by_vlan: bool) -> u32
-    ensures { result ≡ receive_control promiscuous by_vlan }
+/// Enables the receiver in these modes, with broadcast frames and buffers of 256 bytes. Let a driver be ready with its
+/// transmit side off, RCTL.EN be 0, and no frame be held. Then the driver remains ready, and no frame is held after the
+/// write.
+pub fn enable_receiver<B: Bus>(bus: &mut B, modes: FilterModes)
+    ensures keeps { Keeps B.Bus bus.old bus.new }
+    ensures sets { B.honest bus.old → SetsOnly B.Bus (receive_writes modes.promiscuous modes.by_vlan) bus.old bus.new }
+    ensures ran { (d : DriverState) → IsReadyOver B.Bus false (at bus.old d) → ReceiverIsOff d (B.world bus.old)
+        → LetsFramesIn B.Bus (receive_writes modes.promiscuous modes.by_vlan) d bus.old bus.new }
+{
+    bus.write(RCTL, receive_control(modes));
+}
+
+/// Returns the value of RCTL that enables the receiver in these modes.
+fn receive_control(modes: FilterModes) -> u32
+    ensures { result ≡ receive_control modes.promiscuous modes.by_vlan }
 {
     let mut control = Rctl::EN
         .union(Rctl::BAM)
         .union(Rctl::BSIZE)
         .union(Rctl::SECRC);
-    if promiscuous {
+    if modes.promiscuous {
         control = control.union(Rctl::UPE).union(Rctl::MPE);
     }
-    if by_vlan {
+    if modes.by_vlan {
         control = control.union(Rctl::VFE);
     }
     control.bits()

@@ -10,6 +10,7 @@ use crate::{DriveError, DriveLimits, WatchedBus};
 use driver::SendError;
 use packet_socket::Host;
 use pcap_trace::{Frames, RecordWriter, Sink, Unit, WriteError};
+use text::MOST_TURNS;
 
 /// The only socket of the host, which takes all frames.
 const SOCKET: usize = 0;
@@ -101,7 +102,7 @@ impl Exchange {
             (moment_of bus.old self.old (S.taken sink.old)) (moment_of bus.new self.new (S.taken sink.new))) }
         ensures failures { OnOk result (S.failures sink.new ≡ S.failures sink.old) }
     {
-        for _count in 0..u64::MAX {
+        for _count in 0..MOST_TURNS {
             if !self.take_frame(bus, sink)? {
                 break;
             }
@@ -168,7 +169,7 @@ impl Exchange {
             (moment_of bus.old self.old (S.taken sink.old)) (moment_of bus.new self.new (S.taken sink.new))) }
         ensures failures { OnOk result (S.failures sink.new ≡ S.failures sink.old) }
     {
-        for _turn in 0..u64::MAX {
+        for _turn in 0..MOST_TURNS {
             if self.hand(bus, frame) {
                 self.quiet = 0;
                 return Ok(true);
@@ -245,7 +246,7 @@ impl Exchange {
             (moment_of bus.old self.old (S.taken sink.old)) (moment_of bus.new self.new (S.taken sink.new))) }
         ensures failures { OnOk result (S.failures sink.new ≡ S.failures sink.old) }
     {
-        for _turn in 0..u64::MAX {
+        for _turn in 0..MOST_TURNS {
             if limits.are_met(self.received) || self.quiet >= limits.idle {
                 break;
             }

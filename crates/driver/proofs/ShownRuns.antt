@@ -16,9 +16,8 @@ use Rattle.bus.proofs.Owners.{all-copies, owners-count}
 use Rattle.bus.specs.Calls.{OffersAll, missed_added}
 use Rattle.bus.specs.DriverState.{DriverState, HandedOut, holding, piece_numbers, owners, with_owners}
 use Rattle.driver.specs.Answers.{ReceiverAnswers}
-use Rattle.driver.specs.Growth.{grows-join}
+use Rattle.driver.specs.Growth.{GrowsBy, grows-join}
 use Rattle.driver.specs.HandlerSteps.{
-  GrowsBy,
   PassesOn,
   IsSublist,
   IsRun,
@@ -283,7 +282,7 @@ slots-next receivers also r s t d1 d2 d3 d4 n m run parts whole more size some f
     long : length parts ≡ run.count
     long = omega (arith, size, length-map parts (λ (part : Part). part.buffer))
 
-runs-few : (runs : List RunOfSlots) → All IsRun runs → length runs ≤ length (run_buffers runs)
+pub runs-few : (runs : List RunOfSlots) → All IsRun runs → length runs ≤ length (run_buffers runs)
 runs-few [] all = omega arith
 runs-few (run ∷ later) all =
     let one = all-head IsRun run later all in

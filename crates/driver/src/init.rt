@@ -20,9 +20,9 @@ use crate::Driver;
 use crate::refill::receive_slot;
 use crate::setup::Setup;
 use bring_up::{
-    Config, Groups, InitError, RingPlace, clear_descriptor, clear_descriptors, enable_interrupts,
-    enable_receiver, enable_transmitter, find_device, named_vlans, set_filter, set_receive_ring,
-    set_transmit_ring,
+    Config, FilterModes, Groups, InitError, RingPlace, clear_descriptor, clear_descriptors,
+    enable_interrupts, enable_receiver, enable_transmitter, find_device, named_vlans, set_filter,
+    set_receive_ring, set_transmit_ring,
 };
 use bus::Bus;
 use circular_buffer::HeapCircularBuffer;
@@ -162,7 +162,11 @@ impl Driver {
         let address = find_ring(bus, config, layout)?;
         driver.set_address(address);
         driver.offer_first(bus);
-        enable_receiver(bus, config.promiscuous, config.vlans.is_some());
+        let modes = FilterModes {
+            promiscuous: config.promiscuous,
+            by_vlan: config.vlans.is_some(),
+        };
+        enable_receiver(bus, modes);
         set_up_transmitter(bus, layout);
         enable_interrupts(bus);
         Ok(driver)

@@ -13,7 +13,7 @@ use crate::Driver;
 use crate::init::{place_of, set_up_transmitter};
 use crate::refill::receive_slot;
 use bring_up::{
-    allocate_packet_buffer, clear_descriptors, disable_receiver, enable_interrupts,
+    FilterModes, allocate_packet_buffer, clear_descriptors, disable_receiver, enable_interrupts,
     enable_receiver, named_vlans, reset_device, set_filter, set_link_up, set_receive_ring,
 };
 use bus::Bus;
@@ -108,7 +108,11 @@ impl Driver {
         let layout = self.layout;
         set_receive_ring(bus, place_of(layout.receive_ring(), layout.rx()));
         self.offer_free(bus);
-        enable_receiver(bus, self.setup.promiscuous, self.setup.vlans.is_some());
+        let modes = FilterModes {
+            promiscuous: self.setup.promiscuous,
+            by_vlan: self.setup.vlans.is_some(),
+        };
+        enable_receiver(bus, modes);
         set_up_transmitter(bus, layout);
         enable_interrupts(bus);
     }

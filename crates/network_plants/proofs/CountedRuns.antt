@@ -1,19 +1,18 @@
 -- Frames taken and bad runs together are at most the slots that were outstanding. Without sockets, each frame taken is counted as
 -- unclaimed.
-use Rattle.std.proofs.Common.{Bool, not, ◌≡◌, ◌≤◌, ◌+◌, ◌∷◌, [], ℕ, List, length, map, refl, sym, ap, subst, ◌∙◌, length-append, arith}
+use Rattle.std.proofs.Common.{Bool, not, ◌≡◌, ◌≤◌, ◌+◌, ◌∷◌, [], ℕ, List, length, refl, sym, ap, subst, ◌∙◌, length-append, arith}
 use Rattle.std.specs.List.{All, filter}
 use Rattle.std.proofs.lemmas.List.{length-map}
 use Rattle.std.proofs.lemmas.List.Filters.{length-filter_both}
 use Rattle.std.proofs.lemmas.List.Recursion.{is_count_by}
 use Rattle.std.proofs.lemmas.List.Sums.{length-filter}
-use Rattle.bus.proofs.Lists.{all-head, all-tail}
 use Rattle.bus.specs.DriverState.{DriverState}
+use Rattle.driver.proofs.ShownRuns.{runs-few}
 use Rattle.driver.specs.HandlerSteps.{IfHandled, IsRun, RunOfSlots, ServesReceiver, bad_runs, run_buffers, whole_frames}
 use Rattle.driver.specs.Growth.{GrowsBy}
 use Rattle.driver.specs.declared.interrupt.Handled.{Handled}
 use Rattle.driver.specs.declared.interrupt.Handled.TheVariants.{NotMine}
 use Rattle.driver.specs.declared.interrupt.Handled.TheVariants as answers
-use Rattle.driver.specs.declared.parts.Part.{Part}
 use Rattle.driver.specs.declared.receiver.Received.{Received}
 use Rattle.driver.specs.declared.receiver.Receiver.{Ghosts as OfReceiver}
 use Rattle.packet_socket.specs.HostCalls.{HostServes, unclaimed_of}
@@ -24,18 +23,6 @@ use Rattle.packet_socket.specs.declared.socket_kind.SocketKind.{SocketKind}
 pub if-handled : {P Q : ℕ → Type 0} (result : Handled) → ((n : ℕ) → P n → Q n) → IfHandled result P → IfHandled result Q
 if-handled NotMine follows holds = tt
 if-handled (answers.Handled taken) follows holds = follows taken holds
-
-runs-few : (runs : List RunOfSlots) → All IsRun runs → length runs ≤ length (run_buffers runs)
-runs-few [] all = omega arith
-runs-few (run ∷ later) all =
-    let one = all-head IsRun run later all in
-    omega (
-      arith,
-      one.least,
-      runs-few later (all-tail IsRun run later all),
-      length-append (map (λ (part : Part). part.buffer) run.parts) (run_buffers later),
-      length-map run.parts (λ (part : Part). part.buffer),
-    )
 
 runs-counted : (runs : List RunOfSlots) → All IsRun runs → length (whole_frames runs) + bad_runs runs ≤ length (run_buffers runs)
 runs-counted runs all =

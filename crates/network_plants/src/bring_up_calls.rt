@@ -14,7 +14,7 @@ ghost use Rattle.bring_up.specs.SettingSteps.{SetsOnly};
 ghost use Rattle.bus.specs.Calls.{IsReadyOver, Ran, at, only};
 ghost use Rattle.bus.specs.DriverState.{DriverState, address_limit, receive_slot};
 
-use bring_up::{Config, InitError};
+use bring_up::{Config, FilterModes, InitError};
 use bus::Bus;
 use dma_memory::Layout;
 use registers::Image;
@@ -51,10 +51,10 @@ pub fn await_link<B: Bus>(bus: &mut B) -> Result<(), InitError>
 }
 
 /// A twin of [`bring_up::enable_receiver`].
-pub fn enable_receiver<B: Bus>(bus: &mut B, promiscuous: bool, by_vlan: bool)
-    ensures sets { B.honest bus.old → SetsOnly B.Bus (receive_writes promiscuous by_vlan) bus.old bus.new }
+pub fn enable_receiver<B: Bus>(bus: &mut B, modes: FilterModes)
+    ensures sets { B.honest bus.old → SetsOnly B.Bus (receive_writes modes.promiscuous modes.by_vlan) bus.old bus.new }
 {
-    bring_up::enable_receiver(bus, promiscuous, by_vlan);
+    bring_up::enable_receiver(bus, modes);
 }
 
 /// A twin of [`bring_up::clear_descriptors`].

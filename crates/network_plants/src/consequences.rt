@@ -7,10 +7,10 @@ ghost use Rattle.registers.specs.Image.{HasRightSum};
 ghost use Rattle.bring_up.specs.EepromReading.{most_reads};
 ghost use Rattle.bring_up.specs.Link.{NeedsMoreThan};
 ghost use Rattle.driver.specs.HandlerSteps.{IfHandled};
-ghost use Rattle.driver.specs.Growth.{GrowsBy};
 ghost use Rattle.driver.specs.declared.receiver.Received.{Received};
 ghost use Rattle.packet_socket.specs.HostState.{queue_at};
 ghost use Rattle.packet_socket.specs.declared.socket_kind.SocketKind.TheVariants as kinds;
+ghost use Rattle.driver.specs.Growth.{GrowsBy};
 
 use bring_up::InitError;
 use bus::Bus;

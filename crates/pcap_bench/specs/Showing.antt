@@ -5,7 +5,8 @@ use Rattle.std.specs.List.{flat_map}
 use Rattle.hex.specs.Hex.{encode_lower}
 use Rattle.pcap_trace.specs.declared.trace.Trace.{Trace}
 use Rattle.rx_engine.specs.Addresses.{destination}
-use Rattle.pcap_bench.specs.Printing.{count_field, cut_word}
+use Rattle.text.specs.Fields.{labelled}
+use Rattle.pcap_bench.specs.Printing.{cut_word}
 
 -- a byte, as two lower-case hexadecimal digits
 abbrev pub pair : ℕ → List ℕ
@@ -35,7 +36,7 @@ header_text frame =
 
 -- `N LEN DST SRC TYPE` or `N LEN short`
 abbrev pub shown_frame : ℕ → List ℕ → List ℕ
-shown_frame number frame = decimal number ++ count_field (codes " ") (length frame) ++ header_text frame ++ codes "\n"
+shown_frame number frame = decimal number ++ labelled (codes " ") (length frame) ++ header_text frame ++ codes "\n"
 
 -- a line for each frame, numbered from n on
 abbrev pub shown_frames : ℕ → List (List ℕ) → List ℕ
@@ -44,7 +45,7 @@ shown_frames n (frame ∷ frames) = shown_frame n frame ++ shown_frames (n + 1) 
 
 -- `frames F skipped K cut no` or `frames F skipped K cut yes`
 abbrev pub end_line : Trace → List ℕ
-end_line trace = count_field (codes "frames ") (length trace.frames) ++ count_field (codes " skipped ") trace.skipped ++ cut_word trace.cut
+end_line trace = labelled (codes "frames ") (length trace.frames) ++ labelled (codes " skipped ") trace.skipped ++ cut_word trace.cut
 
 -- all lines of a trace
 abbrev pub shown_trace : Trace → List ℕ

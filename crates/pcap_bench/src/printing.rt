@@ -2,31 +2,18 @@
 ghost use Rattle.std.specs.Prelude.{◌≡◌, ◌<◌, ◌≤◌, ◌+◌, ◌++◌, length, OnOk, OnErr};
 ghost use Rattle.std.specs.Io.KnownBytes.{Appends};
 ghost use Rattle.pcap_trace.specs.Devices.{AppendsFront, CountsFailures};
-ghost use Rattle.pcap_bench.specs.Printing.{cut_word, count_field, pass_line};
+ghost use Rattle.pcap_bench.specs.Printing.{cut_word, pass_line};
 
 use crate::counts::PassCounts;
 use arrayvec::ArrayVec;
-use itoa::Buffer;
 use pcap_trace::{Sink, Trace, WriteError, write_all};
+use text::push_field;
 
 /// Room in bytes for the longest line: five labels with numbers, of at most 60 bytes each, and `cut no` or `cut yes`.
 const LONGEST_LINE: usize = 320;
 
 /// A line under construction.
 pub(crate) type Line = ArrayVec<u8, LONGEST_LINE>;
-
-/// Appends a label of at most 20 bytes and a number: at most 60 bytes.
-pub(crate) fn push_field(line: &mut Line, label: &[u8], number: u64)
-    requires label { length label.now ≤ 20 }
-    requires room { length line.old.items + 60 ≤ 320 }
-    ensures text { line.new.items ≡ line.old.items ++ count_field label.now number }
-    ensures short { length line.new.items ≤ length line.old.items + 60 }
-{
-    let mut buffer = Buffer::new();
-    let digits = buffer.format(number).as_bytes();
-    line.try_extend_from_slice(label).unwrap();
-    line.try_extend_from_slice(digits).unwrap();
-}
 
 /// Appends ` cut yes` or ` cut no`, and ends the line.
 pub(crate) fn push_cut(line: &mut Line, cut: bool)

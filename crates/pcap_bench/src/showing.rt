@@ -5,8 +5,9 @@ ghost use Rattle.pcap_trace.specs.Devices.{AppendsFront, CountsFailures};
 ghost use Rattle.pcap_bench.specs.Showing.{address_text, end_line, shown_frame, header_text, pair};
 ghost use Rattle.pcap_bench.specs.Showing.{shown_trace};
 
-use crate::printing::{Line, push_cut, push_field};
+use crate::printing::{Line, push_cut};
 use pcap_trace::{Sink, Trace, WriteError, write_all};
+use text::push_field;
 
 /// The number of bytes of a frame's two addresses and its type (IEEE 802.3 clause 3.2).
 const HEADER: usize = 14;

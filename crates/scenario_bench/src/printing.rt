@@ -2,14 +2,14 @@
 ghost use Rattle.std.specs.Prelude.{◌≡◌, ◌<◌, ◌≤◌, ◌+◌, ◌++◌, length, OnErr, OnOk};
 ghost use Rattle.std.specs.Io.KnownBytes.{Appends};
 ghost use Rattle.pcap_trace.specs.Devices.{AppendsFront, CountsFailures};
-ghost use Rattle.scenario_bench.specs.Printing.{exact_word, summary_field, host_fields};
+ghost use Rattle.scenario_bench.specs.Printing.{exact_word, host_fields};
 ghost use Rattle.scenario_bench.specs.Printing.{host_line, resets_text, summary_text};
 
 use crate::summary::{HostSummary, Summary};
 use arrayvec::ArrayVec;
-use itoa::Buffer;
 use pcap_trace::{Sink, WriteError, write_all};
 use run_record::GivenUp;
+use text::push_field;
 
 /// Room in bytes for the part of a host's line after its name: ten labels with numbers, of at most 60 bytes each, a
 /// word of at most 8 bytes, and a line feed.
@@ -17,19 +17,6 @@ const LONGEST_LINE: usize = 700;
 
 /// The part of a host's line after its name.
 type Line = ArrayVec<u8, LONGEST_LINE>;
-
-/// Appends a label of at most 20 bytes, and a number in decimal.
-fn push_field(line: &mut Line, label: &[u8], number: u64)
-    requires label { length label.now ≤ 20 }
-    requires room { length line.old.items + 60 ≤ 700 }
-    ensures text { line.new.items ≡ line.old.items ++ summary_field label.now number }
-    ensures short { length line.new.items ≤ length line.old.items + 60 }
-{
-    let mut buffer = Buffer::new();
-    let digits = buffer.format(number).as_bytes();
-    line.try_extend_from_slice(label).unwrap();
-    line.try_extend_from_slice(digits).unwrap();
-}
 
 /// Appends ` exact` if the number of missed frames is exact, else ` atleast`.
 fn push_exact(line: &mut Line, exact: bool)

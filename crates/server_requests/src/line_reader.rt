@@ -7,6 +7,7 @@ ghost use Rattle.server_requests.specs.LinesRead.{Adds, BothKnown, IsNextLine, T
 
 use std::io;
 use std::io::{BufRead, ErrorKind};
+use text::MOST_TURNS;
 
 /// The maximum number of bytes of a line without its LF (our choice): room for a `write` of 65,536 bytes.
 pub const MOST_LINE_BYTES: usize = 131_200;
@@ -118,7 +119,7 @@ fn take_part<R: BufRead>(reader: &mut R, line: &mut Vec<u8>) -> io::Result<Part>
 ///
 /// # Errors
 ///
-/// A read failed, except by an interruption, or 2^64 - 1 reads didn't reach the end of the line.
+/// A read failed, except by an interruption.
 pub fn next_line<R: BufRead>(reader: &mut R, line: &mut Vec<u8>) -> Result<NextLine, ReadFailed>
     requires { MOST_LINE_BYTES ≤ vec_capacity line.old }
     ensures next { IfOk result
@@ -127,7 +128,7 @@ pub fn next_line<R: BufRead>(reader: &mut R, line: &mut Vec<u8>) -> Result<NextL
 {
     line.clear();
     let mut is_long = false;
-    for _turn in 0..u64::MAX {
+    for _turn in 0..MOST_TURNS {
         match take_part(reader, line) {
             Ok(Part::None) => return Ok(if line.is_empty() {
                 NextLine::End

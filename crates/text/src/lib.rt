@@ -1,12 +1,16 @@
-//! Reads texts: the words of a line, numbers, Ethernet addresses, and values of tables of words.
+//! Parts of a line that are read (words, numbers, Ethernet addresses, values of tables of words) or printed (fields).
 #![tactic(auto)]
 
 mod address;
+mod field;
 mod number;
 mod table;
+mod turns;
 mod words;
 
 pub use address::address_of;
+pub use field::push_field;
 pub use number::{digits_of, number_of};
 pub use table::value_of;
+pub use turns::MOST_TURNS;
 pub use words::{split_at_word, word_at, words_in};

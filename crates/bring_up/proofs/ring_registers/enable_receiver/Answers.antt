@@ -8,6 +8,6 @@ returns-clause-sets g c honest = only-write refl c.receive_control.ensures (c.wr
 
 pub returns-clause-ran : goal.returns-clause-ran
 returns-clause-ran g c d is quiet =
-    lets-frames-in g.B.Bus c.args.bus.now c.write.new.self c.args.promiscuous c.args.by_vlan
+    lets-frames-in g.B.Bus c.args.bus.now c.write.new.self c.args.modes.promiscuous c.args.modes.by_vlan
     c.receive_control.result d
     c.receive_control.ensures (c.write.ensures.acts is.honest) is.ready quiet.none_held quiet.off

@@ -1,0 +1,20 @@
+// Fields of a line that is printed.
+
+ghost use Rattle.std.specs.Prelude.{◌≡◌, ◌≤◌, ◌+◌, ◌++◌, length};
+ghost use Rattle.text.specs.Fields.{labelled};
+
+use arrayvec::ArrayVec;
+use itoa::Buffer;
+
+/// Appends a label of at most 20 bytes, and a number in decimal: at most 60 bytes together.
+pub fn push_field<const N: usize>(line: &mut ArrayVec<u8, N>, label: &[u8], number: u64)
+    requires label { length label.now ≤ 20 }
+    requires room { length line.old.items + 60 ≤ N }
+    ensures text { line.new.items ≡ line.old.items ++ labelled label.now number }
+    ensures short { length line.new.items ≤ length line.old.items + 60 }
+{
+    let mut buffer = Buffer::new();
+    let digits = buffer.format(number).as_bytes();
+    line.try_extend_from_slice(label).unwrap();
+    line.try_extend_from_slice(digits).unwrap();
+}
