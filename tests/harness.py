@@ -16,6 +16,7 @@ This module also adds the folders with the repository's modules to the path.
 import os
 import re
 import resource
+import signal
 import subprocess
 import sys
 import tempfile
@@ -284,6 +285,8 @@ def count(checks: Checks) -> int:
 
 def finish(run: Callable[[], Checks]) -> NoReturn:
     """Runs a script, prints its last line, and ends it."""
+    # A shell starts a command in the background with SIGINT ignored, and the programs of tests would inherit this.
+    signal.signal(signal.SIGINT, signal.default_int_handler)
     try:
         status = count(run())
     except Ended as reason:
