@@ -39,11 +39,13 @@ use Rattle.adapter.specs.Outcomes.{framed, oldest_queued}
 use Rattle.adapter.specs.Receiving.{ChangesDescriptorOf, DoneAnswers, IsFate, after_arrive, after_done, causes_of_finishing, is_ending}
 use Rattle.adapter.specs.Receiving.{room}
 use Rattle.adapter.specs.Recording.{one_more}
-use Rattle.adapter.specs.Registers.{after_reset, by_row, is_reset, read_of, write_of}
+use Rattle.adapter.specs.AdapterLaws.{HasRegisters-read, HasRegisters-written}
+use Rattle.adapter.specs.Registers.{after_reset, by_row, is_reset, left_by_read, left_by_write, left_without_reset, write_of}
 use Rattle.adapter.specs.Rings.{ring_of}
-use Rattle.adapter.specs.State.{AdapterState, CausesAlone, IsAdapter}
+use Rattle.adapter.specs.State.{AdapterState, CausesAlone, HasRegisters, IsAdapter}
 use Rattle.adapter.specs.Steps.{after_phy_tick, after_phy_told, causes_told, ticked}
-use Rattle.adapter.specs.Table.{row_of}
+use Rattle.adapter.specs.Table.{IsInTable, register_at, row_of}
+use Rattle.adapter.specs.TableLaws.{register_at-only, register_at-there}
 use Rattle.adapter.specs.Transmitting.{CanTake, ChangesStatusOfOldest, HasNothingToTake, IsOldest, PutAnswers}
 use Rattle.adapter.specs.Transmitting.{TakeAnswers, after_put, after_take}
 use Rattle.adapter.specs.Transmitting.{causes_of_putting, memory_after_put, memory_reported as reported_to}
@@ -52,22 +54,53 @@ use Rattle.adapter.specs.declared.outcome.Outcome.TheVariants as outcomes
 use Rattle.adapter.specs.declared.register_file.RegisterFile.{RegisterFile}
 use Rattle.adapter.specs.declared.ring.RingRegisters.{RingRegisters}
 use Rattle.adapter.specs.declared.register.Register.{Register}
-use Rattle.adapter.specs.declared.register.Register.TheVariants.{Icr, Pba}
+use Rattle.adapter.specs.declared.register.Register.TheVariants.{Ctrl, Icr, Pba}
 
 kept-state : (register : Register) (value : ℕ) (state : AdapterState) → register ≢ Pba
     → with_file (file_of (by_row (row_of register).kept register value state)) state ≡ by_row (row_of register).kept register value state
 kept-state Pba value state other = absurd (other refl)
 kept-state _ value state other = refl
 
-pub write-state : (register : Register) (value : ℕ) (state : AdapterState) → is_reset register value ≡ false → register ≢ Pba
+write-state : (register : Register) (value : ℕ) (state : AdapterState) → is_reset register value ≡ false → register ≢ Pba
     → with_file (file_of (by_row (row_of register).kept register value state)) state ≡ write_of register value state
 write-state register value state is other =
     kept-state register value state other
     ∙ ap (λ (b : Bool). if b then after_reset state else by_row (row_of register).kept register value state) (sym is)
 
-pub read-state : (register : Register) (state : AdapterState) → with_file (file_of (read_of register state)) state ≡ read_of register state
-read-state Icr state = refl
-read-state _ state = refl
+no-reset : (register : Register) (value : ℕ) → (Some register ≡ Some Ctrl → is_reset Ctrl value ≡ false) → is_reset register value ≡ false
+no-reset Ctrl value calm = calm refl
+no-reset _ value calm = refl
+
+pub left-write : (found : Option Register) (value : ℕ) (state : AdapterState) → (found ≡ Some Ctrl → is_reset Ctrl value ≡ false)
+    → found ≢ Some Pba → with_file (file_of (left_without_reset found value state)) state ≡ left_by_write found value state
+left-write (Some register) value state calm other =
+    write-state register value state (no-reset register value calm) (λ is. other (ap (λ (r : Register). Some r) is))
+left-write None value state calm other = refl
+
+pub left-read : (found : Option Register) (state : AdapterState)
+    → with_file (file_of (left_by_read found state)) state ≡ left_by_read found state
+left-read (Some Icr) state = refl
+left-read (Some _) state = refl
+left-read None state = refl
+
+-- The registers keep their invariant in accesses at any offset.
+pub registers-read : (found : Option Register) (state : AdapterState) → HasRegisters state → HasRegisters (left_by_read found state)
+registers-read (Some register) state has = HasRegisters-read register state has
+registers-read None state has = has
+
+pub registers-written : (found : Option Register) (value : ℕ) (state : AdapterState) → HasRegisters state
+    → HasRegisters (left_by_write found value state)
+registers-written (Some register) value state has = HasRegisters-written register value state has
+registers-written None value state has = has
+
+-- The register at an offset.
+pub at-register : {A : Type 0} (f : Option Register → A) (offset : ℕ) (register : Register) → IsInTable register
+    → offset ≡ (row_of register).offset → f (Some register) ≡ f (register_at offset)
+at-register f offset register within is = ap f (sym (register_at-there register within) ∙ ap register_at (sym is))
+
+pub other-register : (offset : ℕ) (register : Register) (found : Option Register) → found ≡ register_at offset
+    → offset ≢ (row_of register).offset → found ≢ Some register
+other-register offset register found at other is = other (sym (register_at-only offset register (sym at ∙ is)).there)
 
 -- An adapter keeps its invariant if causes are recorded, and its engines, rings, PHY or MDIC change.
 pub adapter-raised : (state : AdapterState) (causes : ℕ) {after : Interrupts} {receiver : Receiver} {transmitter : Transmitter}

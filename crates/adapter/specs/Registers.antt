@@ -161,6 +161,11 @@ abbrev pub left_by_write : Option Register → ℕ → AdapterState → AdapterS
 left_by_write (Some register) value state = write_of register value state
 left_by_write None value state = state
 
+-- The state after a write of a register that is no reset, or the unchanged state if there is no register.
+abbrev pub left_without_reset : Option Register → ℕ → AdapterState → AdapterState
+left_without_reset (Some register) value state = by_row (row_of register).kept register value state
+left_without_reset None value state = state
+
 -- What a read at an offset returns.
 abbrev pub answer_at : ℕ → AdapterState → ℕ
 answer_at offset state = answer_of (register_at offset) state

@@ -7,6 +7,7 @@ ghost use Rattle.adapter.specs.DataOutcomes.{causes_of_tick, outcome_of_tick};
 ghost use Rattle.adapter.specs.State.{AdapterState};
 ghost use Rattle.adapter.specs.View.{state_of, IsConsistent};
 
+use crate::offsets::{CTRL, PBA, STATUS};
 use crate::outcome::Outcome;
 use crate::register::Register;
 use crate::register_file::RegisterFile;
@@ -108,10 +109,13 @@ impl Adapter {
         ensures state { self.new ≡ after_read offset self.old }
         ensures adapter { IsAdapter self.new }
     {
-        let answer = self.read_register(Register::at(offset));
-        // For the proof of `adapter`: this use of the field shows that the EEPROM has 64 words.
-        let _ = &self.image;
-        answer
+        if offset == STATUS {
+            self.status().bits()
+        } else if offset == PBA {
+            self.packet_buffer.read()
+        } else {
+            self.file.read(Register::at(offset))
+        }
     }
 
     /// Returns the value that a read of the register at an offset in bytes would return now. The call clears no cause
@@ -120,9 +124,13 @@ impl Adapter {
         ensures answer { result ≡ answer_at offset self.now }
         ensures adapter { IsAdapter self.now }
     {
-        // For the proof of `adapter`: this use of the field shows that the EEPROM has 64 words.
-        let _ = &self.image;
-        self.value_of(Register::at(offset))
+        if offset == STATUS {
+            self.status().bits()
+        } else if offset == PBA {
+            self.packet_buffer.read()
+        } else {
+            self.file.value(Register::at(offset))
+        }
     }
 
     /// Performs a driver's write of the register at an offset in bytes. If no register is at the offset, nothing
@@ -132,9 +140,13 @@ impl Adapter {
         ensures state { self.new ≡ after_write offset value self.old }
         ensures adapter { IsAdapter self.new }
     {
-        self.write_register(Register::at(offset), value);
-        // For the proof of `adapter`: this use of the field shows that the EEPROM has 64 words.
-        let _ = &self.image;
+        if offset == CTRL && asks_for_reset(value) {
+            self.reset();
+        } else if offset == PBA {
+            self.packet_buffer.write(value);
+        } else {
+            self.file.write(Register::at(offset), value);
+        }
     }
 
     /// Returns whether the interrupt line is asserted: some recorded cause is in the mask (our choice: no throttling).
@@ -211,72 +223,21 @@ impl Adapter {
     }
 }
 
-/// The effects of register accesses and of a reset, and the ticks of the EEPROM and the PHY.
+/// A reset, the value of STATUS, and the ticks of the EEPROM and the PHY.
 impl Adapter {
-    ghost use Rattle.adapter.specs.Registers.{after_reset, answer, answer_of, left_by_read, left_by_write};
+    ghost use Rattle.adapter.specs.Registers.{after_reset, answer};
     ghost use Rattle.adapter.specs.State.{IsAdapter};
     ghost use Rattle.adapter.specs.declared.outcome.Outcome.TheVariants as outcome;
     ghost use Rattle.adapter.specs.Outcomes.{framed};
     ghost use Rattle.registers.specs.Eerd.{is_pending};
     ghost use Rattle.registers.specs.Mdic.{has_work};
     ghost use Rattle.adapter.specs.Steps.{after_eeprom_tick, after_phy_tick, ticked};
-    ghost use Rattle.adapter.specs.Table.{IsInTable};
-
-    /// Reads a register and returns its value, or 0 for `None`. A read of ICR or of a counter clears the register.
-    #[inline(always)]
-    fn read_register(&mut self, register: Option<Register>) -> u32
-        requires { IfSome register IsInTable }
-        ensures answer { result ≡ answer_of register self.old }
-        ensures state { self.new ≡ left_by_read register self.old }
-    {
-        let Some(register) = register else {
-            return 0;
-        };
-        match register {
-            Register::Status => self.status().bits(),
-            Register::Pba => self.packet_buffer.read(),
-            _ => self.file.read(register),
-        }
-    }
-
-    /// Returns the value that a read of this register would return, or 0 for `None`.
-    #[inline(always)]
-    fn value_of(&self, register: Option<Register>) -> u32
-        requires { IfSome register IsInTable }
-        ensures answer { result ≡ answer_of register self.now }
-    {
-        let Some(register) = register else {
-            return 0;
-        };
-        match register {
-            Register::Status => self.status().bits(),
-            Register::Pba => self.packet_buffer.read(),
-            _ => self.file.value(register),
-        }
-    }
-
-    /// Writes a register: a write of CTRL with RST resets the adapter. For `None`, nothing changes.
-    #[inline(always)]
-    fn write_register(&mut self, register: Option<Register>, value: u32)
-        requires { IfSome register IsInTable }
-        ensures state { self.new ≡ left_by_write register value self.old }
-    {
-        let Some(register) = register else {
-            return;
-        };
-        if is_reset(register, value) {
-            self.reset();
-        } else if let Register::Pba = register {
-            self.packet_buffer.write(value);
-        } else {
-            self.file.write(register, value);
-        }
-    }
 
     /// Sets all registers except PBA to their reset values, empties both packet buffers, drops the piece in progress,
     /// and restarts both engines. PBA, the PHY and the image of the EEPROM don't change.
     fn reset(&mut self)
-        ensures { self.new ≡ after_reset self.old }
+        ensures state { self.new ≡ after_reset self.old }
+        ensures adapter { IsAdapter self.new }
     {
         self.file = RegisterFile::at_reset(&self.image);
         self.receiver.reset();
@@ -286,7 +247,8 @@ impl Adapter {
     /// Returns the value of STATUS, which shows a link if and only if the PHY's link is up and CTRL.SLU is set (our
     /// choice).
     fn status(&self) -> Status
-        ensures { result.0 ≡ answer Register.Status self.now }
+        ensures status { result.0 ≡ answer Register.Status self.now }
+        ensures adapter { IsAdapter self.now }
     {
         Status::of_link(self.phy.link_is_up() && self.file.ctrl.sets_link_up())
     }
@@ -316,18 +278,6 @@ impl Adapter {
         let told = self.file.mdic.tick(&mut self.phy);
         self.file.causes.raise(causes_of_tick(told));
         outcome_of_tick(told)
-    }
-}
-
-/// Returns whether a write of this value to the register resets the adapter: the register is CTRL, and RST is set in
-/// the value. The other bits of the value are then ignored (our choice).
-#[inline(always)]
-fn is_reset(register: Register, value: u32) -> bool
-    ensures { result ≡ is_reset register value }
-{
-    match register {
-        Register::Ctrl => asks_for_reset(value),
-        _ => false,
     }
 }
 

@@ -1,10 +1,10 @@
 // Accesses of the registers that a reset sets.
 
-ghost use Rattle.std.specs.Prelude.{◌≡◌, ◌≢◌};
+ghost use Rattle.std.specs.Prelude.{◌≡◌, ◌≢◌, IfSome, Some};
 ghost use Rattle.adapter.specs.Hashed.{file_of};
-ghost use Rattle.adapter.specs.Registers.{answer, by_row, read_of};
+ghost use Rattle.adapter.specs.Registers.{answer_of, left_by_read, left_without_reset};
 ghost use Rattle.adapter.specs.State.{AdapterState};
-ghost use Rattle.adapter.specs.Table.{IsInTable, row_of};
+ghost use Rattle.adapter.specs.Table.{IsInTable};
 ghost use Rattle.adapter.specs.View.{with_file};
 
 use crate::register::Register;
@@ -17,13 +17,17 @@ const VLAN_TYPE_BITS: u32 = 0xFFFF;
 
 // In contracts, `with_file file rest` is an adapter with this register file. `rest` stands for its other parts.
 impl RegisterFile {
-    /// Returns the value of a register, or 0 for ICS, IMC, STATUS and PBA. STATUS and PBA aren't in the register file.
+    /// Returns the value of a register, or 0 for `None`, ICS, IMC, STATUS and PBA. STATUS and PBA aren't in the
+    /// register file.
     #[inline(always)]
-    pub(crate) fn value(&self, register: Register) -> u32
-        requires { IsInTable register }
-        ensures answer { register ≢ Register.Status → register ≢ Register.Pba
-            → (rest : AdapterState) → result ≡ answer register (with_file self.now rest) }
+    pub(crate) fn value(&self, register: Option<Register>) -> u32
+        requires { IfSome register IsInTable }
+        ensures answer { register ≢ Some Register.Status → register ≢ Some Register.Pba
+            → (rest : AdapterState) → result ≡ answer_of register (with_file self.now rest) }
     {
+        let Some(register) = register else {
+            return 0;
+        };
         match register {
             Register::Ctrl => self.ctrl.bits(),
             Register::Eerd => self.eerd.read(),
@@ -47,33 +51,36 @@ impl RegisterFile {
         }
     }
 
-    /// Reads a register and returns its value, or 0 for ICS, IMC, STATUS and PBA. STATUS and PBA aren't in the
+    /// Reads a register and returns its value, or 0 for `None`, ICS, IMC, STATUS and PBA. STATUS and PBA aren't in the
     /// register file. A read of ICR or of a counter clears the register.
     #[inline(always)]
-    pub(crate) fn read(&mut self, register: Register) -> u32
-        requires { IsInTable register }
-        ensures answer { register ≢ Register.Status → register ≢ Register.Pba
-            → (rest : AdapterState) → result ≡ answer register (with_file self.old rest) }
-        ensures file { (rest : AdapterState) → self.new ≡ file_of (read_of register (with_file self.old rest)) }
+    pub(crate) fn read(&mut self, register: Option<Register>) -> u32
+        requires { IfSome register IsInTable }
+        ensures answer { register ≢ Some Register.Status → register ≢ Some Register.Pba
+            → (rest : AdapterState) → result ≡ answer_of register (with_file self.old rest) }
+        ensures file { (rest : AdapterState) → self.new ≡ file_of (left_by_read register (with_file self.old rest)) }
     {
         match register {
-            Register::Icr => self.causes.read(),
-            Register::Mpc => self.mpc.read(),
-            Register::Gprc => self.gprc.read(),
-            Register::Gptc => self.gptc.read(),
-            Register::Rnbc => self.rnbc.read(),
+            Some(Register::Icr) => self.causes.read(),
+            Some(Register::Mpc) => self.mpc.read(),
+            Some(Register::Gprc) => self.gprc.read(),
+            Some(Register::Gptc) => self.gptc.read(),
+            Some(Register::Rnbc) => self.rnbc.read(),
             _ => self.value(register),
         }
     }
 
     /// Writes a register, by the kept bits of its row or by its other rule. A write of CTRL ignores RST. A write of
-    /// STATUS, of PBA or of a counter changes nothing.
+    /// STATUS, of PBA or of a counter changes nothing, and neither does `None`.
     #[inline(always)]
-    pub(crate) fn write(&mut self, register: Register, value: u32)
-        requires { IsInTable register }
+    pub(crate) fn write(&mut self, register: Option<Register>, value: u32)
+        requires { IfSome register IsInTable }
         ensures { (rest : AdapterState)
-            → self.new ≡ file_of (by_row (row_of register).kept register value (with_file self.old rest)) }
+            → self.new ≡ file_of (left_without_reset register value (with_file self.old rest)) }
     {
+        let Some(register) = register else {
+            return;
+        };
         match register {
             Register::Ctrl => self.ctrl = Ctrl::kept(value),
             Register::Eerd => self.eerd.write(value),

@@ -2,7 +2,7 @@
 use denote.RawPtr.{Ptr}
 use Rattle.std.specs.Prelude.{[]}
 use Rattle.registers.specs.ConfigSpace.{new_function}
-use Rattle.std.specs.Prelude.{ℕ, Option, false}
+use Rattle.std.specs.Prelude.{Option, false}
 use Rattle.std.specs.Prelude.{replicate}
 use Rattle.std.specs.Option.{option_map}
 use Rattle.step_schedules.specs.Agendas.{AgendaState}

@@ -16,7 +16,7 @@ use server_requests::{MOST_LINE_BYTES, NextLine, next_line};
 use std::alloc::Global;
 use std::io::{BufRead, Write};
 use step_schedules::Player;
-use text::MOST_TURNS;
+use text::turns;
 
 /// Writes the answer to a line, and flushes the output. At the end of the input, only flushes the output.
 fn answer_and_send<W: Write>(
@@ -49,7 +49,7 @@ fn serve_lines<R: BufRead, W: Write>(
         WritesText (W.contents output.old) (W.contents output.new) (ServesBegun bytes server.old))) }
 {
     let mut line = Vec::with_capacity(alloc, MOST_LINE_BYTES)?;
-    for _count in 0..MOST_TURNS {
+    for _count in turns() {
         let next = next_line(input, &mut line)?;
         if let NextLine::End = next {
             return Ok(());

@@ -61,9 +61,9 @@ impl Server {
             return refuse(out, Refusal::Saved);
         };
         let session = saved.copy()?;
-        let was = self.session.device.machine.line();
-        let is = session.device.machine.line();
+        let before = self.session.device.machine.line();
+        let level = session.device.machine.line();
         put_in_place(&mut self.session, session);
-        say(out, restored_text(was, is))
+        say(out, restored_text((level != before).then_some(level)))
     }
 }

@@ -97,8 +97,6 @@ impl Groups {
         ensures is { IsTrue result ↔ Contains self.now group.now }
         ensures joined { AreJoined self.now }
     {
-        // For the proof of `joined`: the invariant is known where a field is read.
-        let _list = &self.list;
         self.place_of(group).is_some()
     }
 
@@ -106,6 +104,7 @@ impl Groups {
     fn place_of(&self, group: &[u8; 6]) -> Option<usize>
         ensures some { IfSome result (λ place. slice_get self.now place ≡ Some group.now) }
         ensures none { IfNone result (¬ (Contains self.now group.now)) }
+        ensures joined { AreJoined self.now }
     {
         for (place, joined) in self.list.iter().enumerate() {
             if joined == group {

@@ -10,7 +10,7 @@ use crate::{DriveError, DriveLimits, WatchedBus};
 use driver::SendError;
 use packet_socket::Host;
 use pcap_trace::{Frames, RecordWriter, Sink, Unit, WriteError};
-use text::MOST_TURNS;
+use text::turns;
 
 /// The only socket of the host, which takes all frames.
 const SOCKET: usize = 0;
@@ -102,7 +102,7 @@ impl Exchange {
             (moment_of bus.old self.old (S.taken sink.old)) (moment_of bus.new self.new (S.taken sink.new))) }
         ensures failures { OnOk result (S.failures sink.new ≡ S.failures sink.old) }
     {
-        for _count in 0..MOST_TURNS {
+        for _count in turns() {
             if !self.take_frame(bus, sink)? {
                 break;
             }
@@ -169,7 +169,7 @@ impl Exchange {
             (moment_of bus.old self.old (S.taken sink.old)) (moment_of bus.new self.new (S.taken sink.new))) }
         ensures failures { OnOk result (S.failures sink.new ≡ S.failures sink.old) }
     {
-        for _turn in 0..MOST_TURNS {
+        for _turn in turns() {
             if self.hand(bus, frame) {
                 self.quiet = 0;
                 return Ok(true);
@@ -246,7 +246,7 @@ impl Exchange {
             (moment_of bus.old self.old (S.taken sink.old)) (moment_of bus.new self.new (S.taken sink.new))) }
         ensures failures { OnOk result (S.failures sink.new ≡ S.failures sink.old) }
     {
-        for _turn in 0..MOST_TURNS {
+        for _turn in turns() {
             if limits.are_met(self.received) || self.quiet >= limits.idle {
                 break;
             }

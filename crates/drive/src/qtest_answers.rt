@@ -5,7 +5,7 @@ ghost use Rattle.drive.specs.QtestLines as spec;
 
 use crate::BusFault;
 use std::io::BufRead;
-use text::MOST_TURNS;
+use text::turns;
 
 /// The byte that ends a line.
 const LINE_FEED: u8 = 0x0A;
@@ -87,7 +87,7 @@ impl<R: BufRead> Answers<R> {
 
     /// Reads lines up to and including the next answer, and stores the level that the last `IRQ` line reports.
     fn next(&mut self) -> Result<(), BusFault> {
-        for _count in 0..MOST_TURNS {
+        for _count in turns() {
             self.read_line()?;
             match kind_of(self.line.as_slice()) {
                 Line::Interrupt(asserted) => self.asserted = asserted,

@@ -8,7 +8,6 @@ use Rattle.std.proofs.lemmas.List.Elements.{All-append, All-cons, filter-append}
 use Rattle.std.proofs.lemmas.List.Sums.{count_by-le-length, length-filter, sum_by-append}
 use Rattle.descriptors.specs.RingLaws.{place}
 use Rattle.bus.proofs.Places.{place-add}
-use Rattle.dma_memory.specs.Layout.{Counts}
 use Rattle.dma_memory.specs.Owners.{HasNoSecondOwner, HaveSameNumbers, copies}
 use Rattle.dma_memory.specs.OwnersLaws.{copies-append, copies-itself, known_from_no_second}
 use Rattle.bus.proofs.Lists.{all-head, all-none, all-tail}
@@ -305,17 +304,6 @@ whole-few runs all =
       runs-few runs all,
     )
 
-pub slots-few : {R : Type 0} (receivers : OfReceiver R) (n : ℕ) (before after : R) (d d' : DriverState)
-    → TakesSlots receivers n before after d d' → n + length d'.buffers ≤ length d.buffers
-slots-few receivers n before after d d' slots =
-    omega (
-      arith,
-      slots.count,
-      whole-few slots.runs slots.are_runs,
-      ap length slots.oldest,
-      length-append (run_buffers slots.runs) d'.buffers,
-    )
-
 pub served-few : (n : ℕ) (d d' : DriverState) (runs : List RunOfSlots) → ServesRing d d' runs n → n ≤ length d.buffers
 served-few n d d' runs ring =
     omega (
@@ -343,19 +331,6 @@ slots-owners receivers n before after d d' slots = λ k.
       copies-append k d'.pool kept,
       copies-append k (owners d') kept,
     )
-
-pub slots-one_owner : {R : Type 0} (receivers : OfReceiver R) (n : ℕ) (before after : R) (d d' : DriverState)
-    → TakesSlots receivers n before after d d' → HasNoSecondOwner d.layout.buffers (owners d)
-    → HasNoSecondOwner d'.layout.buffers (owners d')
-slots-one_owner receivers n before after d d' slots once =
-    subst (λ (layout : Counts). HasNoSecondOwner layout.buffers (owners d')) (sym (ap (λ (s : DriverState). s.layout) slots.others))
-    (λ k.
-    omega (
-      arith,
-      once k,
-      slots-owners receivers n before after d d' slots k,
-      copies-append k (owners d') (buffers_of slots.shows.receiver.kept),
-    ))
 
 -- After runs left the ring, the ring is refilled
 

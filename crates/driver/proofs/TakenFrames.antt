@@ -1,5 +1,5 @@
 -- Frames are taken one by one.
-use Rattle.std.proofs.Common.{◌≡◌, ◌+◌, ◌++◌, ◌∷◌, [], ◌∙◌}
+use Rattle.std.proofs.Common.{◌≡◌, ◌<◌, ◌+◌, ◌++◌, ◌∷◌, [], ◌∙◌}
 use Rattle.std.proofs.Common.{Bool, IsTrue, true, ℕ, List, length, map, refl, sym, ap, subst}
 use Rattle.std.proofs.Common.{append_assoc, length-append, length-take, sum, arith}
 use Rattle.std.specs.List.{concat}
@@ -218,6 +218,32 @@ takes-next {up} bus receivers stays joins also a b c e r s t d1 d2 d3 d4 n slots
       ran = ran_by-same bus _ _ a e (holding held d1) (holding held4 (shape d3.bad)) _ _ _ [] accesses last frames five;
     }
 
+-- A run that was found has left the ring.
+
+run-size : (outstanding : ℕ) (run : Run) (parts : List Part) (d d' : DriverState) → IsLookedRun outstanding run → LeavesRing run parts d d'
+    → length (buffers_in parts) ≡ run.count
+run-size outstanding run parts d d' looked leaves =
+    omega (
+      arith,
+      length-map parts (λ (part : Part). part.buffer),
+      length-map parts (λ (part : Part). part.length),
+      ap length leaves.lengths,
+      length-take run.count run.lengths,
+      looked.most,
+      looked.room,
+    )
+
+pub run-left : (outstanding : ℕ) (run : Run) (parts : List Part) (d d' : DriverState) → IsLookedRun outstanding run
+    → LeavesRing run parts d d' → length d'.buffers < length d.buffers
+run-left outstanding run parts d d' looked leaves =
+    omega (
+      arith,
+      ap length leaves.first,
+      length-append (buffers_in parts) d'.buffers,
+      run-size outstanding run parts d d' looked leaves,
+      looked.least,
+    )
+
 pub walks-next : {B R : Type 0} (bus : Ghosts B) (receivers : OfReceiver R)
     → ((b : B) → bus.happened b b nothing)
     → ((a b c : B) (first later : Past) → bus.happened a b first → bus.happened b c later → bus.happened a c (joined first later))
@@ -233,15 +259,7 @@ pub walks-next : {B R : Type 0} (bus : Ghosts B) (receivers : OfReceiver R)
     → Walks bus receivers m (scene a d1 r) (scene e d4 t)
 walks-next bus receivers stays joins also a b c e r s t d1 d2 d3 d4 n m outstanding run parts whole more keeps1 keeps2 walks looked finds
     leaves given hands whole_is over =
-    let size : length (buffers_in parts) ≡ run.count = omega (
-      arith,
-      length-map parts (λ (part : Part). part.buffer),
-      length-map parts (λ (part : Part). part.length),
-      ap length leaves.lengths,
-      length-take run.count run.lengths,
-      looked.most,
-      looked.room,
-    ) in
+    let size = run-size outstanding run parts d2 d3 looked leaves in
     let slots = walks.slots in
     let others = slots.others in
     record {

@@ -1,7 +1,7 @@
 -- How a driver takes frames off its receive ring, reads a received frame, and handles an interrupt. The contract of `interrupt` uses
 -- `Handles`, `ServesReceiver` and `OnlyReceives`. The contract of `take_finished` uses `TakesAll` and `TakesSlots`, and that of `read`
 -- uses `ReadsHeld`.
-use Rattle.std.specs.Prelude.{⊤, ◌≡◌, ◌≤◌, ◌<◌, ◌⊎◌, ◌+◌, ◌-◌, ◌*◌, ◌^◌, ◌++◌, ◌∷◌, []}
+use Rattle.std.specs.Prelude.{⊤, ◌≡◌, ◌≤◌, ◌⊎◌, ◌-◌, ◌*◌, ◌++◌, ◌∷◌, []}
 use Rattle.std.specs.Prelude.{ℕ, suc, Bool, not, All, List, count_by, filter, flat_map, length, map}
 use Rattle.std.specs.Prelude.{IsTrue, min, sum, take}
 use Rattle.std.specs.List.{concat}

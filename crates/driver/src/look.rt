@@ -1,12 +1,14 @@
 // How a driver looks at its oldest receive slots.
 
-ghost use Rattle.std.specs.Prelude.{◌≡◌, ◌↔◌, ◌+◌, ◌*◌, ◌<◌, ◌≤◌, length};
+ghost use Rattle.std.specs.Prelude.{◌≡◌, ◌↔◌, ◌+◌, ◌*◌, ◌^◌, ◌<◌, ◌≤◌, length};
 ghost use Rattle.std.specs.Prelude.{replicate, slice_set, IfNone, IfSome, IsTrue};
 ghost use Rattle.dma_memory.specs.Layout.{size_of};
+ghost use Rattle.dma_memory.specs.Owners.{HasNoSecondOwner};
 ghost use Rattle.registers.specs.Bits.{HasBit, is_set};
 ghost use Rattle.descriptors.specs.RxStatus.{dd, eop, status_bits};
 ghost use Rattle.bus.specs.Keeping.{Keeps};
 ghost use Rattle.bus.specs.Calls.{WhereReady, at};
+ghost use Rattle.bus.specs.DriverState.{owners};
 ghost use Rattle.driver.specs.Looks.{IsLookedRun, IsSoundPart, LooksAt, LooksAtPlace, greatest_length, new_run};
 ghost use Rattle.driver.specs.Parts.{IsFrameSize};
 
@@ -100,6 +102,14 @@ impl Run {
 }
 
 impl Driver {
+    /// Returns the number of outstanding receive slots. No receive buffer has two owners.
+    fn outstanding(&self) -> usize
+        ensures count { result ≡ length self.now.buffers }
+        ensures one_owner { HasNoSecondOwner self.now.layout.buffers (owners self.now) }
+    {
+        self.buffers.len() - usize::from(self.staged)
+    }
+
     /// Loads and returns the descriptor of the slot that is `places` places after the oldest slot.
     fn descriptor_after<B: Bus>(&self, bus: &mut B, places: usize) -> RxDesc
         requires memory { size_of self.now.layout ≤ B.extent bus.old }
@@ -119,13 +129,17 @@ impl Driver {
     /// with EOP. Returns these slots, or six slots without EOP. Six slots without EOP aren't a whole frame, because a
     /// frame has at most six pieces. Returns `None` if the call first reaches a slot that isn't finished or isn't
     /// outstanding. DD, EOP and the length of a slot come from the same load. No slot is taken.
+    ///
+    /// The number of outstanding slots fits into `usize`, and no receive buffer has two owners.
     pub(crate) fn look<B: Bus>(&self, bus: &mut B) -> Option<Run>
         requires memory { size_of self.now.layout ≤ B.extent bus.old }
         ensures keeps { Keeps B.Bus bus.old bus.new }
         ensures finds { IfSome result (IsLookedRun (length self.now.buffers)) }
+        ensures fits { length self.now.buffers < 2 ^ 64 }
+        ensures one_owner { HasNoSecondOwner self.now.layout.buffers (owners self.now) }
         ensures looks { WhereReady B.Bus (at bus.old self.now) (at bus.new self.now) (LooksAt B.Bus result) }
     {
-        let outstanding = self.buffers.len() - usize::from(self.staged);
+        let outstanding = self.outstanding();
         let mut run = Run::new();
         while run.count < MOST_PARTS && run.count < outstanding {
             let descriptor = self.descriptor_after(bus, run.count);

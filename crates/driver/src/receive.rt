@@ -138,8 +138,6 @@ impl Driver {
         ensures takes { WhereReadyIn B.Bus (scene bus.old self.old receiver.old) (scene bus.new self.new receiver.new)
             (TakesAll B.Bus R.Receiver result) }
     {
-        // For the proof of `one_owner`: no receive buffer has two owners before the call.
-        let _ = self.receiving();
         let mut taken = 0;
         while let Some(run) = self.look(bus) {
             let parts = self.take_run(&run);

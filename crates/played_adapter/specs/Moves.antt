@@ -49,16 +49,16 @@ abbrev pub listed : Option Move → List Move
 listed None = []
 listed (Some next) = next ∷ []
 
--- the moves of a default step: no move if the step has no work; else the hold if the step is held, or else the step
-abbrev pub default_moves : (has_work is_held : Bool) → StepKind → Action → List Move
-default_moves has_work is_held kind hold = if has_work then (if is_held then Hold hold else Tick kind) ∷ [] else []
+-- the move of a default step that has work: its hold if the step is held, else the step
+abbrev pub default_move : (is_held : Bool) → StepKind → Action → Move
+default_move is_held kind hold = if is_held then Hold hold else Tick kind
 
 -- the moves of the default steps before an access; `held` is which of them are held
 abbrev pub tick_moves : Held → PlayedAdapter → List Move
 tick_moves held a =
     let adapter = a.machine.world.adapter in
-    default_moves (is_pending adapter.eerd) held.eeprom kinds.EepromTick HoldEeprom
-    ++ default_moves (has_work adapter.mdic adapter.phy) held.phy kinds.PhyTick HoldPhy
+    (if is_pending adapter.eerd then default_move held.eeprom kinds.EepromTick HoldEeprom ∷ [] else [])
+    ++ (if has_work adapter.mdic adapter.phy then default_move held.phy kinds.PhyTick HoldPhy ∷ [] else [])
 
 -- the actions of an agenda that are due if an access of a target with this name, or a request with this first word, comes now
 abbrev pub due_in_agenda : Before → (name : Text) → AgendaState → List Action

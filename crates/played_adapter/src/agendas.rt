@@ -37,17 +37,14 @@ fn moves_of(action: Action) -> (Option<Move>, Option<Move>)
     }
 }
 
-/// Returns the move of the default step of the EEPROM or of the PHY: the hold if the step is held, else the step.
-/// Returns `None` if the step has no work.
-fn default_move(has_work: bool, is_held: bool, kind: StepKind, hold: Action) -> Option<Move>
-    ensures { spec.listed result ≡ spec.default_moves has_work is_held kind hold }
+/// Returns the move of a default step that has work: its hold if the step is held, else the step.
+fn default_move(is_held: bool, kind: StepKind, hold: Action) -> Move
+    ensures { result ≡ spec.default_move is_held kind hold }
 {
-    if !has_work {
-        None
-    } else if is_held {
-        Some(Move::Hold(hold))
+    if is_held {
+        Move::Hold(hold)
     } else {
-        Some(Move::Tick(kind))
+        Move::Tick(kind)
     }
 }
 
@@ -91,18 +88,10 @@ impl PlayedAdapter {
         ensures { Tells O.heard observer.old observer.new
             (InOrder Makes (spec.tick_moves held self.old) self.old self.new) }
     {
-        let eeprom = default_move(
-            self.machine.eeprom_has_work(),
-            held.eeprom,
-            StepKind::EepromTick,
-            Action::HoldEeprom,
-        );
-        let phy = default_move(
-            self.machine.phy_has_work(),
-            held.phy,
-            StepKind::PhyTick,
-            Action::HoldPhy,
-        );
+        let eeprom = default_move(held.eeprom, StepKind::EepromTick, Action::HoldEeprom);
+        let phy = default_move(held.phy, StepKind::PhyTick, Action::HoldPhy);
+        let eeprom = self.machine.eeprom_has_work().then_some(eeprom);
+        let phy = self.machine.phy_has_work().then_some(phy);
         self.make_both(eeprom, phy, observer);
     }
 

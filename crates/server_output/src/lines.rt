@@ -125,14 +125,14 @@ pub(crate) fn arrived_line<'a>(
     joined(alloc, &[b"arrived ", fate, b" ", digits, b"\n"])
 }
 
-/// Returns what `restore` prints: a change of the interrupt line, if there is one, and `OK`.
-pub fn restored_text(was: bool, is: bool) -> &'static [u8]
-    ensures { result.now ≡ texts.line_moved was is ++ texts.ok_line }
+/// Returns what `restore` prints: the new level of the interrupt line, if the line has changed, and `OK`.
+pub fn restored_text(level: Option<bool>) -> &'static [u8]
+    ensures { result.now ≡ texts.line_told level ++ texts.ok_line }
 {
-    match (was, is) {
-        (false, true) => b"IRQ raise 0\nOK\n",
-        (true, false) => b"IRQ lower 0\nOK\n",
-        _ => b"OK\n",
+    match level {
+        Some(true) => b"IRQ raise 0\nOK\n",
+        Some(false) => b"IRQ lower 0\nOK\n",
+        None => b"OK\n",
     }
 }
 

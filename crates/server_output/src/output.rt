@@ -15,7 +15,7 @@ use played_adapter::Frames;
 use server_requests::Refusal;
 use std::alloc::Global;
 use std::io::{ErrorKind, Write};
-use text::MOST_TURNS;
+use text::turns;
 
 /// Writes a beginning of a text, with one call of the writer. Returns the number of bytes written, or 0 if the call was
 /// interrupted. Fails if the writer takes no byte, or has another error.
@@ -40,7 +40,7 @@ pub fn say<W: Write>(out: &mut W, text: &[u8]) -> Result<(), AnswerError>
     ensures { Says result (W.contents out.old) (W.contents out.new) text.now }
 {
     let mut written = 0;
-    for _turn in 0..MOST_TURNS {
+    for _turn in turns() {
         if written == text.len() {
             return Ok(());
         }

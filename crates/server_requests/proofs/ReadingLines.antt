@@ -38,13 +38,6 @@ pub reads_none : (before : Option (List ℕ)) → BothKnown before before (Reads
 reads_none before = known_same before (Reads [] false)
     (λ bytes. record { got = []; kept = refl; long = refl; goes = record { all = refl; first = refl; behind = refl } })
 
-pub reads_kept : (line : Text) (is_long : Bool) (before now after : Option (List ℕ)) → BothKnown before now (Reads line is_long)
-    → Keeps now after → BothKnown before after (Reads line is_long)
-reads_kept line is_long None now after reads keeps = tt
-reads_kept line is_long (Some a) None after reads keeps = absurd reads
-reads_kept line is_long (Some a) (Some b) None reads keeps = absurd keeps
-reads_kept line is_long (Some a) (Some b) (Some c) reads keeps = subst (Reads line is_long a) (sym keeps) reads
-
 -- Bytes without an LF continue a line, and an LF ends the line.
 
 no_feed : (byte : ℕ) → byte ≢ 10 → is_feed byte ≡ false

@@ -7,7 +7,7 @@ ghost use Rattle.server_requests.specs.LinesRead.{Adds, BothKnown, IsNextLine, T
 
 use std::io;
 use std::io::{BufRead, ErrorKind};
-use text::MOST_TURNS;
+use text::turns;
 
 /// The maximum number of bytes of a line without its LF (our choice): room for a `write` of 65,536 bytes.
 pub const MOST_LINE_BYTES: usize = 131_200;
@@ -128,7 +128,7 @@ pub fn next_line<R: BufRead>(reader: &mut R, line: &mut Vec<u8>) -> Result<NextL
 {
     line.clear();
     let mut is_long = false;
-    for _turn in 0..MOST_TURNS {
+    for _turn in turns() {
         match take_part(reader, line) {
             Ok(Part::None) => return Ok(if line.is_empty() {
                 NextLine::End

@@ -3,14 +3,14 @@
 
 mod address;
 mod field;
+mod loops;
 mod number;
 mod table;
-mod turns;
 mod words;
 
 pub use address::address_of;
 pub use field::push_field;
+pub use loops::turns;
 pub use number::{digits_of, number_of};
 pub use table::value_of;
-pub use turns::MOST_TURNS;
 pub use words::{split_at_word, word_at, words_in};

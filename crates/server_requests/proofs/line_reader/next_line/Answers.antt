@@ -1,11 +1,10 @@
-use Rattle.std.proofs.Common.{Bool, false, ap, arith, length, subst, sym, ◌∙◌}
+use Rattle.std.proofs.Common.{false, ap, arith, length, subst, sym, ◌∙◌}
 use Rattle.server_requests.specs.LinesRead.{BothKnown, IsNextLine, TakesPart}
 use Rattle.server_requests.specs.Texts.{Text}
 use Rattle.server_requests.specs.declared.line_reader.NextLine.{NextLine}
 use Rattle.server_requests.specs.declared.line_reader.Part.{Part}
-use Rattle.server_requests.proofs.ReadingLines.{Reads, empty_no, empty_yes, reads_end, reads_kept, reads_last, reads_more, reads_none}
+use Rattle.server_requests.proofs.ReadingLines.{Reads, empty_no, empty_yes, reads_end, reads_last, reads_more, reads_none}
 use Rattle.server_requests.proofs.ReadingLines.{reads_rest}
-use Rattle.server_requests.proofs.line_reader.next_line.Goals.{in-Ok-More, in-Err+else-ne}
 use Rattle.server_requests.proofs.line_reader.next_line.Goals as goal
 
 pub loop-turn-init : goal.loop-turn-init
@@ -50,24 +49,17 @@ returns-in-Ok-Last-clause-next g c =
     (reads_last c.loop-turn.line.items new.items c.loop-turn.is_long last.more (left c.args.reader.now) (left c.loop-turn.reader)
     (left c.take_part.new.reader) c.loop-turn.invariant.got takes)
 
-pub loop-turn-preserved : goal.loop-turn-preserved
-loop-turn-preserved g c =
+pub loop-turn-preserved-in-Ok-More : goal.loop-turn-preserved-in-Ok-More
+loop-turn-preserved-in-Ok-More g c =
     let left = g.R.Read.remaining in
-    let now = left c.args.reader.now in
     let mid = left c.loop-turn.reader in
     let after = left c.take_part.new.reader in
     let old = c.loop-turn.line.items in
     let new = c.take_part.new.line.items in
-    let is_long = c.loop-turn.is_long in
+    let more = c.in-Ok-More in
     record {
       room = c.take_part.ensures.room;
       fits = c.take_part.ensures.fits;
-      got = elim c.match-take_part.branch [
-        | in-Ok-More w ↦ subst (λ (long : Bool). BothKnown now after (Reads new long)) (sym w.is_long-is)
-            (reads_more old new is_long w.in-Ok-More.more now mid after c.loop-turn.invariant.got
-            (subst (λ (part : Part). BothKnown mid after (TakesPart part old new)) w.in-Ok-More.field-0-is w.in-Ok-More.ensures.ok))
-        | in-Err+else-ne w ↦ subst (λ (long : Bool). BothKnown now after (Reads new long)) (sym w.is_long-is)
-            (subst (λ (items : Text). BothKnown now after (Reads items is_long)) (sym w.in-Err.ensures.unchanged)
-            (reads_kept old is_long now mid after c.loop-turn.invariant.got w.in-Err.ensures.err))
-      ];
+      got = reads_more old new c.loop-turn.is_long more.more (left c.args.reader.now) mid after c.loop-turn.invariant.got
+          (subst (λ (part : Part). BothKnown mid after (TakesPart part old new)) more.field-0-is more.ensures.ok);
     }

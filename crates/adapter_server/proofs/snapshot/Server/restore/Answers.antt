@@ -1,8 +1,9 @@
-use Rattle.std.proofs.Common.{◌≡◌, ◌++◌, ◌∙◌, Option, Some, subst, sym}
+use Rattle.std.proofs.Common.{◌≡◌, ◌++◌, ◌∙◌, Bool, true, false, not, Option, Some, refl, subst, sym}
+use Rattle.std.specs.Bool.{beq, then_some}
 use Rattle.adapter_server.specs.Answers.{Replies, Restores, TellsAnswer, line_between}
 use Rattle.adapter_server.specs.Sessions.{copied}
 use Rattle.server_output.specs.Order.{Says}
-use Rattle.server_output.specs.Texts.{ok_line}
+use Rattle.server_output.specs.Texts.{line_moved, line_told, ok_line}
 use Rattle.adapter_server.specs.declared.session.Session.{Session}
 use Rattle.adapter_server.specs.declared.snapshot.Server.{Server}
 use Rattle.adapter_server.proofs.Printing.{answer_none, answer_so, replied}
@@ -17,6 +18,13 @@ returns-in_default g c =
 
 pub returns-in_err-session : goal.returns-in_err-session
 returns-in_err-session g c = answer_none c.from_residual.result _ _ _ c.from_residual.ensures.0
+
+-- The level is reported if it isn't the level before.
+told_change : (before level : Bool) → line_told (then_some (not (beq level before)) level) ≡ line_moved before level
+told_change true true = refl
+told_change true false = refl
+told_change false true = refl
+told_change false false = refl
 
 pub returns : goal.returns
 returns g c =
@@ -37,4 +45,5 @@ returns g c =
     before after (λ b text replies. (copy.address, replies))
     (replied c.say.result (line_between a.session next ++ ok_line) server before after
     (subst (λ (session : Session). Says c.say.result before after (line_between a.session session ++ ok_line)) copy.same
-    (rw (c.restored_text.ensures, c.line-was.ensures.line, c.line-is.ensures.line) at c.say.ensures)))))
+    (rw (c.restored_text.ensures, c.then_some.ensures, told_change, c.line-before.ensures.line, c.line-level.ensures.line)
+    at c.say.ensures)))))

@@ -1,14 +1,11 @@
-use Rattle.std.proofs.Common.{ℕ, ◌≡◌, Bool, List, length, length-set, refl, sym, ap, ◌-◌, ◌≤◌}
+use Rattle.std.proofs.Common.{◌≡◌, Bool, List, length, length-set, refl, sym, ap, ◌≤◌}
 use Rattle.std.proofs.Common.{◌∙◌, arith}
 use Rattle.std.specs.Prelude.{IsTrue}
 use Rattle.bus.proofs.Keeping.{keeps-here, keeps-on}
 use Rattle.bus.specs.Calls.{IsReadyOver, at, held_at}
-use Rattle.bus.specs.DriverState.{DriverState, HandedOut, holding}
+use Rattle.bus.specs.DriverState.{HandedOut, holding}
 use Rattle.adapter.specs.HostFrames.{finished_pieces}
 use Rattle.driver.specs.declared.look.Run.{Run}
-use Rattle.driver.specs.InsideDriver.{driver_state_of}
-use Rattle.driver.specs.declared.driver.Driver.TheInside.{Inside}
-use Rattle.driver.proofs.BufferQueue.{Receives, queue-split}
 use Rattle.driver.proofs.SeenSlots.{IsAdded, LoadsNext, NextSeen, fills-added, finds-all_seen, finds-frame, finds-unfinished}
 use Rattle.driver.proofs.SeenSlots.{full-added, full-none, is-added, loads-next, never-six, next-shown, sees_slots-more}
 use Rattle.driver.proofs.SeenSlots.{sees_slots-none, sum-added}
@@ -45,11 +42,6 @@ next g c up held is =
     (c.descriptor_after-descriptor.ensures.looks up held
     (record { honest = i.keeps.honest is.honest; ready = sees.ran.goes.flows.ready }))
 
-outstanding : (inside : Inside) (d : DriverState) (all staged : ℕ) → Receives inside → driver_state_of inside ≡ d
-    → all ≡ length inside.buffers.items → staged ≡ inside.staged → all - staged ≡ length d.buffers
-outstanding inside d all staged receives shown long some =
-    omega (arith, (queue-split inside receives).outstanding, ap (λ (s : DriverState). length s.buffers) shown, long, some)
-
 -- The next slot isn't finished.
 pub returns-then-not-is_done-clause-looks : goal.returns-then-not-is_done-clause-looks
 returns-then-not-is_done-clause-looks g c up held is =
@@ -58,8 +50,7 @@ returns-then-not-is_done-clause-looks g c up held is =
     (omega (
       arith,
       c.if-run-outstanding.true,
-      outstanding c.self.inside c.args.self.now c.len.result c.from.result c.self.invariant.receives c.self.view_is c.len.ensures.len
-          c.from.ensures,
+      c.outstanding-outstanding.ensures.count,
     ))
 
 -- The next slot is finished.
@@ -101,8 +92,7 @@ inside g c =
       arith,
       c.add.ensures.count,
       c.if-run-outstanding.true,
-      outstanding c.self.inside c.args.self.now c.len.result c.from.result c.self.invariant.receives c.self.view_is c.len.ensures.len
-          c.from.ensures,
+      c.outstanding-outstanding.ensures.count,
     )
 
 -- A frame ends in the next slot. If the run is whole, the buffers of the slots before are full.
@@ -163,8 +153,7 @@ pub returns-then-run-lt-MOST_PARTS-clause-looks : goal.returns-then-run-lt-MOST_
 returns-then-run-lt-MOST_PARTS-clause-looks g c up held is =
     let i = c.loop-run.invariant in
     finds-all_seen g.B.Bus c.loop-run.run (holding held c.args.self.now) c.args.bus.now c.loop-run.bus (i.sees up held is)
-    (let all = outstanding c.self.inside c.args.self.now c.len.result c.from.result c.self.invariant.receives c.self.view_is
-    c.len.ensures.len c.from.ensures in
+    (let all = c.outstanding-outstanding.ensures.count in
     elim c.loop-run-test.branch [
       | then-loop-run-test+else-run-outstanding w ↦ omega (arith, w.if-run-outstanding.false, all, i.outstanding)
       | else-loop-run-test w ↦ omega (arith, w.loop-run-test.false, c.if-run-lt-MOST_PARTS.true)

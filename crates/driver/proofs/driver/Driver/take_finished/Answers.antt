@@ -7,8 +7,7 @@ use Rattle.driver.specs.declared.parts.Part.{Part}
 use Rattle.driver.specs.HandlerSteps.{run_with, whole_frames}
 use Rattle.driver.specs.Parts.{FitIntoBuffers, pieces_of}
 use Rattle.driver.proofs.SeenSlots.{fills-fit}
-use Rattle.driver.proofs.ShownRuns.{slots-few, slots-one_owner}
-use Rattle.driver.proofs.TakenFrames.{walks-next, walks-none}
+use Rattle.driver.proofs.TakenFrames.{run-left, walks-next, walks-none}
 use Rattle.driver.proofs.driver.Driver.take_finished.Goals as goal
 
 pub loop-run-init : goal.loop-run-init
@@ -16,6 +15,7 @@ loop-run-init g c = record {
   keeps = keeps-here g.B.Bus g.met.B.Bus.composes.lent_stays_here c.args.bus.now;
   walks = walks-none g.B.Bus g.R.Receiver g.met.B.Bus.composes.stays g.met.R.Receiver.stays
       c.args.bus.now c.args.receiver.now c.args.self.now;
+  few = omega arith;
 }
 
 -- The parts have the lengths of the run that was found.
@@ -57,27 +57,35 @@ loop-run-preserved g c =
           c.pass_on.new.self c.loop-run.taken (c.loop-run.taken + c.from-taken.result) _ c.in-Some.run' c.take_run-parts.result
           c.pass_on.result same l.keeps look.keeps l.walks look.finds look.looks c.take_run-parts.ensures.leaves h.others h.hands
           h.whole h.over;
+      few = omega (
+        arith,
+        l.few,
+        look.fits,
+        look.finds.least,
+        look.finds.inside,
+        run-left _ c.in-Some.run' c.take_run-parts.result c.loop-run.self c.take_run-parts.new.self look.finds
+            c.take_run-parts.ensures.leaves,
+        ap (λ (d : DriverState). length d.buffers) h.others,
+        at-most-one c.pass_on.result,
+        c.from-taken.ensures,
+      );
     }
 
--- Each frame had a slot that was outstanding at the beginning.
+-- Each frame that was taken had a slot, which is no longer outstanding.
 pub overflow_add-taken : goal.overflow_add-taken
 overflow_add-taken g c =
     omega (
       arith,
-      slots-few g.R.Receiver c.loop-run.taken c.args.receiver.now c.loop-run.receiver c.args.self.now c.loop-run.self
-          c.loop-run.invariant.walks.slots,
+      c.loop-run.invariant.few,
+      c.in-Some.ensures.fits,
       c.in-Some.ensures.finds.least,
       c.in-Some.ensures.finds.inside,
-      c.receiving.ensures.count,
-      c.receiving.type_inv,
       at-most-one c.pass_on.result,
       c.from-taken.ensures,
     )
 
 pub returns-clause-one_owner : goal.returns-clause-one_owner
-returns-clause-one_owner g c =
-    slots-one_owner g.R.Receiver c.loop-run.taken c.args.receiver.now c.loop-run.receiver c.args.self.now c.loop-run.self
-    c.loop-run.invariant.walks.slots c.receiving.ensures.one_owner
+returns-clause-one_owner g c = c.look.ensures.one_owner
 
 pub returns-clause-takes : goal.returns-clause-takes
 returns-clause-takes g c up held is =
