@@ -1,5 +1,7 @@
 //! The jobs that a command line can ask for.
 
+use pcap_bench::PassFilter;
+
 /// A job of the program. As the path of an input, `-` means standard input, except for `drive` and `--schedule`. As the
 /// path of OUT of `pass` or of the file of `--events`, `-` means standard output.
 #[derive(Clone, Copy)]
@@ -20,7 +22,7 @@ pub enum Job<'a> {
 /// The job of `pass`.
 #[derive(Clone, Copy)]
 pub struct PassJob<'a> {
-    /// Which frames pass.
+    /// Which frames pass (`--address`, `--group` and `--vlan`, none of them).
     pub filter: PassFilter,
     /// The path of the trace that is read, IN.
     pub input: &'a str,
@@ -50,17 +52,6 @@ pub struct RunJob<'a> {
 pub struct ShowJob<'a> {
     /// The path of the trace that is read, TRACE.
     pub trace: &'a str,
-}
-
-/// The filter of `pass`. An option that isn't given is `None`. By default no option is given.
-#[derive(Clone, Copy, Default)]
-pub struct PassFilter {
-    /// The adapter's own address (`--address`), the first byte first.
-    pub address: Option<[u8; 6]>,
-    /// A group address (`--group`), the first byte first.
-    pub group: Option<[u8; 6]>,
-    /// A VLAN identifier, at most 4095 (`--vlan`).
-    pub vlan: Option<u16>,
 }
 
 /// The job of `serve`. An option that isn't given has its default here, or is `None`.

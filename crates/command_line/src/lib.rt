@@ -16,7 +16,6 @@ mod values;
 
 pub use error::{InvalidValue, LineError};
 pub use job::{
-    DriveJob, Job, PassFilter, PassJob, RunJob, ServeImage, ServeJob, ServeLink, ShowJob,
-    ValueOption,
+    DriveJob, Job, PassJob, RunJob, ServeImage, ServeJob, ServeLink, ShowJob, ValueOption,
 };
 pub use reader::line;

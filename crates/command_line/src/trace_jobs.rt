@@ -6,8 +6,9 @@ ghost use Rattle.command_line.specs.Jobs.{IsPassFilterOf, IsRunJobOf, IsValueOf,
 ghost use Rattle.command_line.specs.Spelling.{SpellsVlan};
 
 use crate::values::{address, flag, number, path, text};
-use crate::{Job, PassFilter, PassJob, RunJob, ValueOption};
+use crate::{Job, PassJob, RunJob, ValueOption};
 use clap::ArgMatches;
+use pcap_bench::PassFilter;
 
 /// Returns the VLAN identifier of `--vlan`, or `None` if `--vlan` isn't given. Fails if the text of `--vlan` isn't a
 /// VLAN identifier.

@@ -14,7 +14,7 @@ use Rattle.rx_engine.specs.Writing.{with_number}
 use Rattle.rx_engine.specs.FilterLaws.{SameSets, SameSets-sym, Passes-same, HasEntry-zeros, HasEntry-added, HasTableBit-zeros}
 use Rattle.rx_engine.specs.FilterLaws.{HasTableBit-with_number}
 use Rattle.adapter.specs.Registers.{filter_at_reset}
-use Rattle.command_line.specs.declared.job.PassFilter.{PassFilter}
+use Rattle.pcap_bench.specs.declared.filter.PassFilter.{PassFilter}
 use Rattle.pcap_bench.specs.Choosing.{mode_bits, mode_for, with_address, with_bit, with_group_bit, with_tables, with_vlan_bit}
 use Rattle.pcap_bench.specs.Lane.{IsReceiving}
 use Rattle.pcap_bench.specs.Options.{IsOpen, KeptBy, filter_for, HasVlanNumber}

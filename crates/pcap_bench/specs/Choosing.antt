@@ -3,7 +3,7 @@
 use Rattle.std.specs.Prelude.{◌+◌, ◌/◌, ◌%◌, ◌^◌, ◌&&◌, ℕ, List, Bool, true, false, Option, Some, None, is_none, is_some, slice_set}
 use Rattle.rx_engine.specs.Addresses.{low_word, high_word, group_number}
 use Rattle.rx_engine.specs.Registers.{FilterRegisters}
-use Rattle.command_line.specs.declared.job.PassFilter.{PassFilter}
+use Rattle.pcap_bench.specs.declared.filter.PassFilter.{PassFilter}
 use Rattle.rx_engine.specs.declared.filter.TheConstants.{VLAN_TYPE}
 use Rattle.registers.specs.Places.{alone, rctl_bam, rctl_en, rctl_mpe, rctl_upe, rctl_vfe}
 

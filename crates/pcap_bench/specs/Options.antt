@@ -2,7 +2,7 @@
 use Rattle.std.specs.Prelude.{◌≡◌, ◌≤◌, ℕ, List, Some, None, IfSome}
 use Rattle.rx_engine.specs.Addresses.{group_number}
 use Rattle.rx_engine.specs.Passing.{ReceiveFilter, Passes}
-use Rattle.command_line.specs.declared.job.PassFilter.{PassFilter}
+use Rattle.pcap_bench.specs.declared.filter.PassFilter.{PassFilter}
 use Rattle.rx_engine.specs.declared.filter.TheConstants.{VLAN_TYPE}
 
 -- neither an address nor a group is given

@@ -5,10 +5,10 @@ ghost use Rattle.rx_engine.specs.Addresses.{IsAddress};
 ghost use Rattle.pcap_bench.specs.Choosing.{with_address, with_group_bit, with_tables, with_vlan_bit, mode_for};
 ghost use Rattle.pcap_bench.specs.Options.{HasVlanNumber};
 
+use crate::filter::PassFilter;
 use adapter::Adapter;
 use adapter::offsets::{MTA, RAL, REGISTER_BYTES, VET, VFTA};
 use bitflags::Flags;
-use command_line::PassFilter;
 use registers::{GroupOffset, Rctl};
 use rx_engine::{AddressWords, TableBit, VLAN_TYPE, hash_of};
 

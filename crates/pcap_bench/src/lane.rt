@@ -13,11 +13,11 @@ ghost use Rattle.pcap_bench.specs.Lane.{ring_at, slot_bytes, slot_desc, HasFrame
 ghost use Rattle.pcap_bench.specs.Options.{filter_for, HasVlanNumber};
 
 use crate::choosing::{mode_of, write_filter};
+use crate::filter::PassFilter;
 use crate::slots::{BUFFERS, SLOTS, load_desc, offer, offer_all};
 use adapter::offsets::{RCTL, RDBAH, RDBAL, RDH, RDLEN, RDT};
 use adapter::{Adapter, Fate, StepKind};
 use bitflags::Flags;
-use command_line::PassFilter;
 use descriptors::{RX_DESC_BYTES, RxDesc, SHORTEST_LEGAL};
 use dma_memory::{HostMemory, Layout};
 use registers::{Image, Link};

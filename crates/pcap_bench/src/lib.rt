@@ -4,6 +4,7 @@
 
 mod choosing;
 mod counts;
+mod filter;
 mod lane;
 mod pass_error;
 mod passing;
@@ -11,8 +12,8 @@ mod printing;
 mod showing;
 mod slots;
 
-pub use command_line::PassFilter;
 pub use counts::PassCounts;
+pub use filter::PassFilter;
 pub use pass_error::PassError;
 pub use passing::pass;
 pub use pcap_trace::{

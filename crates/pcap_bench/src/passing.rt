@@ -11,9 +11,9 @@ ghost use Rattle.pcap_bench.specs.Passing.{WritesKept, StopsAmong, StopsBy};
 ghost use Rattle.pcap_bench.specs.Lane.{slot_bytes, HasFrame, IsWaiting};
 
 use crate::counts::PassCounts;
+use crate::filter::PassFilter;
 use crate::lane::ReceiveLane;
 use crate::pass_error::PassError;
-use command_line::PassFilter;
 use descriptors::{LONGEST_SENDABLE, SHORTEST_SENDABLE};
 use pcap_trace::{RecordWriter, Sink, Trace, Unit, WriteError};
 use std::alloc::Global;

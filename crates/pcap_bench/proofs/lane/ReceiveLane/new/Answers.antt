@@ -5,7 +5,7 @@ use Rattle.rx_engine.specs.FilterLaws.{SameSets}
 use Rattle.rx_engine.specs.Registers.{filter_of}
 use Rattle.adapter.specs.Registers.{after_write, filter_at_reset, new_adapter}
 use Rattle.adapter.specs.State.{AdapterState}
-use Rattle.command_line.specs.declared.job.PassFilter.{PassFilter}
+use Rattle.pcap_bench.specs.declared.filter.PassFilter.{PassFilter}
 use Rattle.pcap_bench.specs.Choosing.{mode_for, with_tables}
 use Rattle.pcap_bench.specs.Lane.{ring_at, IsLane}
 use Rattle.pcap_bench.specs.Options.{filter_for}
