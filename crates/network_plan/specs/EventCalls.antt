@@ -23,10 +23,10 @@ pub data EventKind : Type 0 where
 
 -- the kind of an event: a call of a host, a reset, or a tick outside a call
 abbrev pub in_event : Event → EventKind
-in_event (Send host frame ticks) = ByCall (record { host = host; request = Sending frame.items; ticks = ticks.items })
-in_event (Recv host socket ticks) = ByCall (record { host = host; request = Receiving socket; ticks = ticks.items })
-in_event (Interrupt host ticks) = ByCall (record { host = host; request = Interrupting; ticks = ticks.items })
-in_event (Join host group ticks) = ByCall (record { host = host; request = Joining group; ticks = ticks.items })
-in_event (Leave host group ticks) = ByCall (record { host = host; request = Leaving group; ticks = ticks.items })
-in_event (Reset host ticks) = ByReset host ticks.items
+in_event (Send host frame ticks) = ByCall (record { host = host; request = Sending frame.now; ticks = ticks.now })
+in_event (Recv host socket ticks) = ByCall (record { host = host; request = Receiving socket; ticks = ticks.now })
+in_event (Interrupt host ticks) = ByCall (record { host = host; request = Interrupting; ticks = ticks.now })
+in_event (Join host group ticks) = ByCall (record { host = host; request = Joining group; ticks = ticks.now })
+in_event (Leave host group ticks) = ByCall (record { host = host; request = Leaving group; ticks = ticks.now })
+in_event (Reset host ticks) = ByReset host ticks.now
 in_event (OfTick tick) = Alone tick

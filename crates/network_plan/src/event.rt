@@ -4,18 +4,18 @@ use stations::Tick;
 
 /// An event of a run. Before each access of a call or reset, the event's ticks up to the next [`Go`](Tick::Go) are
 /// played, or all remaining ticks if no `Go` remains. After the last access, the remaining ticks are played, and each
-/// `Go` is skipped. Hosts are numbered from 0 in the order of the plan.
-#[derive(Debug, Drop)]
-pub enum Event {
+/// `Go` is skipped. Hosts are numbered from 0 in the order of the plan. An event borrows its frame and its ticks.
+#[derive(Clone, Copy, Debug, Drop)]
+pub enum Event<'a> {
     /// A host sends a frame of any length. The answer is E20 if the frame has fewer than 14 bytes, and E21 if the frame
     /// has more than 1,518 bytes.
     Send {
         /// The number of the host.
         host: usize,
         /// The frame's bytes.
-        frame: Vec<u8>,
+        frame: &'a [u8],
         /// The ticks that are played inside the call.
-        ticks: Vec<Tick>,
+        ticks: &'a [Tick],
     },
     /// A host asks for the oldest frame of a socket.
     Recv {
@@ -24,14 +24,14 @@ pub enum Event {
         /// The number of the socket: its index in the host's table of sockets.
         socket: usize,
         /// The ticks that are played inside the call.
-        ticks: Vec<Tick>,
+        ticks: &'a [Tick],
     },
     /// A host handles an interrupt.
     Interrupt {
         /// The number of the host.
         host: usize,
         /// The ticks that are played inside the call.
-        ticks: Vec<Tick>,
+        ticks: &'a [Tick],
     },
     /// A host joins a multicast group.
     Join {
@@ -40,7 +40,7 @@ pub enum Event {
         /// The group's address.
         group: [u8; 6],
         /// The ticks that are played inside the call.
-        ticks: Vec<Tick>,
+        ticks: &'a [Tick],
     },
     /// A host leaves a multicast group.
     Leave {
@@ -49,20 +49,20 @@ pub enum Event {
         /// The group's address.
         group: [u8; 6],
         /// The ticks that are played inside the call.
-        ticks: Vec<Tick>,
+        ticks: &'a [Tick],
     },
     /// A host's driver resets the host's adapter, and initializes the adapter with the groups that the host has joined.
     Reset {
         /// The number of the host.
         host: usize,
         /// The ticks that are played inside the reset.
-        ticks: Vec<Tick>,
+        ticks: &'a [Tick],
     },
     /// A tick outside a call. `Go` does nothing here.
     Tick(Tick),
 }
 
-impl Event {
+impl Event<'_> {
     ghost use Rattle.std.specs.Prelude.{◌≡◌, length};
     ghost use Rattle.network_plan.specs.Answers.{ticks_of};
 

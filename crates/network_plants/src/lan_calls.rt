@@ -15,7 +15,7 @@ use wire::{FrameSink, Lan, RunObserver};
 /// A twin of [`Lan::play`], with the clause for errors.
 pub fn play<O: RunObserver>(
     lan: &mut Lan,
-    events: &[Event],
+    events: &[Event<'_>],
     observer: &mut O,
 ) -> Result<(), Stopped>
     ensures refused { IfErr result (λ stopped. StopsAt O.refuses (length lan.old.hosts)
@@ -33,7 +33,7 @@ pub fn play<O: RunObserver>(
 pub fn run(
     lan: &mut Lan,
     alloc: Global,
-    events: &[Event],
+    events: &[Event<'_>],
     replies: &mut Vec<Reply>,
 ) -> Result<(), Stopped>
     ensures ok { OnOk result (RunsTo lan.old events.now replies.old.items replies.new.items lan.new) }

@@ -115,18 +115,18 @@ answer_of other one = []
 
 pub given-said : (n : ℕ) (one : Event) (reply : Reply) → returned_in n (said one reply) ≡ returned_in n (answer_of one reply.answer)
 given-said n (event.Send host frame ticks) reply =
-    both-none n (accepted_by_answer host frame.items reply.answer) (tick_happenings ticks.items reply.outcomes.list)
-    (given-accepted n host frame.items reply.answer) (given-told n ticks.items reply.outcomes.list)
+    both-none n (accepted_by_answer host frame.now reply.answer) (tick_happenings ticks.now reply.outcomes.list)
+    (given-accepted n host frame.now reply.answer) (given-told n ticks.now reply.outcomes.list)
 given-said n (event.Recv host socket ticks) reply =
-    flat_map-append (returned_frame_in n) (tick_happenings ticks.items reply.outcomes.list) (given_by_answer host socket reply.answer)
+    flat_map-append (returned_frame_in n) (tick_happenings ticks.now reply.outcomes.list) (given_by_answer host socket reply.answer)
     ∙ ap (λ (l : List KeptFrame). l ++ returned_in n (given_by_answer host socket reply.answer))
-    (given-told n ticks.items reply.outcomes.list)
-given-said n (event.Interrupt host ticks) reply = given-told n ticks.items reply.outcomes.list
-given-said n (event.Reset host ticks) reply = given-reset n host (reset_answer reply.answer) ticks.items reply.outcomes.list
+    (given-told n ticks.now reply.outcomes.list)
+given-said n (event.Interrupt host ticks) reply = given-told n ticks.now reply.outcomes.list
+given-said n (event.Reset host ticks) reply = given-reset n host (reset_answer reply.answer) ticks.now reply.outcomes.list
 given-said n (event.Join host group ticks) reply =
-    gives-by-ticks n (joined_of host group reply.answer) (joins_quiet host group reply.answer) ticks.items reply.outcomes.list
+    gives-by-ticks n (joined_of host group reply.answer) (joins_quiet host group reply.answer) ticks.now reply.outcomes.list
 given-said n (event.Leave host group ticks) reply =
-    gives-by-ticks n (left_by_answer host group reply.answer) (leaves_quiet host group reply.answer) ticks.items reply.outcomes.list
+    gives-by-ticks n (left_by_answer host group reply.answer) (leaves_quiet host group reply.answer) ticks.now reply.outcomes.list
 given-said n (event.Tick one) reply = given-alone n one reply.outcomes.list
 
 pub returned_none : (returned : List KeptFrame) → FramesGrow [] returned returned

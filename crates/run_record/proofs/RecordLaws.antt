@@ -1,6 +1,6 @@
 -- The record of an event: what is recorded of its ticks, line and answer is what `RecordsReplies` states of the event and its reply.
 use Rattle.std.proofs.Common.{◌≡◌, ◌==◌, ◌⊎◌, ◌++◌, ◌∷◌, [], ℕ, arith, inl, inr, length, Bool, true, false, Err}
-use Rattle.std.proofs.Common.{Global, List, None, Ok, Option, Some, Vec, map}
+use Rattle.std.proofs.Common.{List, None, Ok, Option, Some, map}
 use Rattle.std.proofs.Common.{if◌then◌else◌, option_map, slice_get, refl, sym, ap, subst, ◌∙◌, append-nil}
 use Rattle.std.specs.List.{flat_map, fold}
 use Rattle.std.specs.Vec.{with_items}
@@ -222,27 +222,27 @@ event-grows : (one : Event) (reply : Reply) (ticks : List TickTold) (a b c : Lis
     → reply.outcomes.list ≡ map note_of ticks → IsInOrder one reply → TalliesGrow (flat_map happened_of ticks) a b
     → TalliesGrow (answered one reply.answer) b c → TalliesGrow (said one reply) a c
 event-grows (event.Send host frame list) reply ticks a b c of_ticks outcomes order ticked answers =
-    subst (λ (happened : List Happening). TalliesGrow (accepted_by_answer host frame.items reply.answer ++ happened) a c)
-    (sym (ap (tick_happenings list.items) outcomes ∙ told_happened list.items ticks of_ticks))
-    (accepted-last (flat_map happened_of ticks) host frame.items reply.answer a b c ticked answers)
+    subst (λ (happened : List Happening). TalliesGrow (accepted_by_answer host frame.now reply.answer ++ happened) a c)
+    (sym (ap (tick_happenings list.now) outcomes ∙ told_happened list.now ticks of_ticks))
+    (accepted-last (flat_map happened_of ticks) host frame.now reply.answer a b c ticked answers)
 event-grows (event.Recv host socket list) reply ticks a b c of_ticks outcomes order ticked answers =
     subst (λ (happened : List Happening). TalliesGrow (happened ++ given_by_answer host socket reply.answer) a c)
-    (sym (ap (tick_happenings list.items) outcomes ∙ told_happened list.items ticks of_ticks))
+    (sym (ap (tick_happenings list.now) outcomes ∙ told_happened list.now ticks of_ticks))
     (grows_join (flat_map happened_of ticks) (given_by_answer host socket reply.answer) a b c ticked answers)
 event-grows (event.Interrupt host list) reply ticks a b c of_ticks outcomes order ticked answers =
     subst (λ (happened : List Happening). TalliesGrow happened a c)
-    (sym (ap (tick_happenings list.items) outcomes ∙ told_happened list.items ticks of_ticks))
+    (sym (ap (tick_happenings list.now) outcomes ∙ told_happened list.now ticks of_ticks))
     (none-more (flat_map happened_of ticks) a b c ticked answers)
 event-grows (event.Reset host list) reply ticks a b c of_ticks outcomes order ticked answers =
-    reset-grows host reply.answer (tick_happenings list.items reply.outcomes.list) (said (event.Reset host list) reply) a b c order
+    reset-grows host reply.answer (tick_happenings list.now reply.outcomes.list) (said (event.Reset host list) reply) a b c order
     (subst (λ (happened : List Happening). TalliesGrow happened a b)
-    (sym (ap (tick_happenings list.items) outcomes ∙ told_happened list.items ticks of_ticks)) ticked) answers
+    (sym (ap (tick_happenings list.now) outcomes ∙ told_happened list.now ticks of_ticks)) ticked) answers
 event-grows (event.Join host group list) reply ticks a b c of_ticks outcomes order ticked answers =
-    around-grows (joined_of host group reply.answer) (joins_quiet host group reply.answer) list.items reply.outcomes.list
-    (flat_map happened_of ticks) a b c (ap (tick_happenings list.items) outcomes ∙ told_happened list.items ticks of_ticks) ticked answers
+    around-grows (joined_of host group reply.answer) (joins_quiet host group reply.answer) list.now reply.outcomes.list
+    (flat_map happened_of ticks) a b c (ap (tick_happenings list.now) outcomes ∙ told_happened list.now ticks of_ticks) ticked answers
 event-grows (event.Leave host group list) reply ticks a b c of_ticks outcomes order ticked answers =
-    around-grows (left_by_answer host group reply.answer) (leaves_quiet host group reply.answer) list.items reply.outcomes.list
-    (flat_map happened_of ticks) a b c (ap (tick_happenings list.items) outcomes ∙ told_happened list.items ticks of_ticks) ticked answers
+    around-grows (left_by_answer host group reply.answer) (leaves_quiet host group reply.answer) list.now reply.outcomes.list
+    (flat_map happened_of ticks) a b c (ap (tick_happenings list.now) outcomes ∙ told_happened list.now ticks of_ticks) ticked answers
 event-grows (event.Tick one) reply ticks a b c of_ticks outcomes order ticked answers =
     subst (λ (happened : List Happening). TalliesGrow happened a c)
     (sym (ap (lone_tick_happenings one) outcomes ∙ alone one ticks of_ticks))
@@ -299,30 +299,30 @@ event-puts : (number : ℕ) (one : Event) (reply : Reply) (ticks : List TickTold
     number (said one reply)
 event-puts number (event.Send host frame list) reply ticks of_ticks outcomes order =
     let of = put_frames_in number in
-    let before = accepted_by_answer host frame.items reply.answer in
-    sym (ap of (ap (tick_happenings list.items) outcomes ∙ told_happened list.items ticks of_ticks))
-    ∙ sym (ap (λ (puts : List KeptFrame). puts ++ of (tick_happenings list.items reply.outcomes.list))
-    (puts-accepted number host frame.items reply.answer))
-    ∙ sym (flat_map-append (put_frame_in number) before (tick_happenings list.items reply.outcomes.list))
+    let before = accepted_by_answer host frame.now reply.answer in
+    sym (ap of (ap (tick_happenings list.now) outcomes ∙ told_happened list.now ticks of_ticks))
+    ∙ sym (ap (λ (puts : List KeptFrame). puts ++ of (tick_happenings list.now reply.outcomes.list))
+    (puts-accepted number host frame.now reply.answer))
+    ∙ sym (flat_map-append (put_frame_in number) before (tick_happenings list.now reply.outcomes.list))
 event-puts number (event.Recv host socket list) reply ticks of_ticks outcomes order =
     let of = put_frames_in number in
     let behind = given_by_answer host socket reply.answer in
-    let ticked = tick_happenings list.items reply.outcomes.list in
-    sym (ap of (ap (tick_happenings list.items) outcomes ∙ told_happened list.items ticks of_ticks))
+    let ticked = tick_happenings list.now reply.outcomes.list in
+    sym (ap of (ap (tick_happenings list.now) outcomes ∙ told_happened list.now ticks of_ticks))
     ∙ sym (append-nil (of ticked))
     ∙ sym (ap (λ (puts : List KeptFrame). of ticked ++ puts) (puts-given number host socket reply.answer))
     ∙ sym (flat_map-append (put_frame_in number) ticked behind)
 event-puts number (event.Interrupt host list) reply ticks of_ticks outcomes order =
-    sym (ap (put_frames_in number) (ap (tick_happenings list.items) outcomes ∙ told_happened list.items ticks of_ticks))
+    sym (ap (put_frames_in number) (ap (tick_happenings list.now) outcomes ∙ told_happened list.now ticks of_ticks))
 event-puts number (event.Reset host list) reply ticks of_ticks outcomes order =
-    sym (ap (put_frames_in number) (ap (tick_happenings list.items) outcomes ∙ told_happened list.items ticks of_ticks))
-    ∙ reset-puts number host reply.answer (tick_happenings list.items reply.outcomes.list) (said (event.Reset host list) reply) order
+    sym (ap (put_frames_in number) (ap (tick_happenings list.now) outcomes ∙ told_happened list.now ticks of_ticks))
+    ∙ reset-puts number host reply.answer (tick_happenings list.now reply.outcomes.list) (said (event.Reset host list) reply) order
 event-puts number (event.Join host group list) reply ticks of_ticks outcomes order =
-    around-puts number (joined_of host group reply.answer) (joins_quiet host group reply.answer) list.items reply.outcomes.list
-    (flat_map happened_of ticks) (ap (tick_happenings list.items) outcomes ∙ told_happened list.items ticks of_ticks)
+    around-puts number (joined_of host group reply.answer) (joins_quiet host group reply.answer) list.now reply.outcomes.list
+    (flat_map happened_of ticks) (ap (tick_happenings list.now) outcomes ∙ told_happened list.now ticks of_ticks)
 event-puts number (event.Leave host group list) reply ticks of_ticks outcomes order =
-    around-puts number (left_by_answer host group reply.answer) (leaves_quiet host group reply.answer) list.items reply.outcomes.list
-    (flat_map happened_of ticks) (ap (tick_happenings list.items) outcomes ∙ told_happened list.items ticks of_ticks)
+    around-puts number (left_by_answer host group reply.answer) (leaves_quiet host group reply.answer) list.now reply.outcomes.list
+    (flat_map happened_of ticks) (ap (tick_happenings list.now) outcomes ∙ told_happened list.now ticks of_ticks)
 event-puts number (event.Tick one) reply ticks of_ticks outcomes order =
     sym (ap (put_frames_in number) (ap (lone_tick_happenings one) outcomes ∙ alone one ticks of_ticks))
 
@@ -335,7 +335,7 @@ given-up-gives number host _ = refl
 answered-as : (number : ℕ) (one : Event) (reply : Reply)
     → returned_in number (answered one reply.answer) ≡ returned_in number (said one reply)
 answered-as number (event.Send host frame list) reply =
-    given-accepted number host frame.items reply.answer ∙ sym (given-said number (event.Send host frame list) reply)
+    given-accepted number host frame.now reply.answer ∙ sym (given-said number (event.Send host frame list) reply)
 answered-as number (event.Reset host list) reply =
     given-up-gives number host reply.answer ∙ sym (given-said number (event.Reset host list) reply)
 answered-as number (event.Recv host socket list) reply = sym (given-said number (event.Recv host socket list) reply)

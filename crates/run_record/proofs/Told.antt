@@ -13,8 +13,7 @@ use Rattle.run_record.specs.Acts.{Act}
 use Rattle.run_record.specs.Numbers.{next_number}
 use Rattle.run_record.specs.Tallies.{all_given, count_given, off_by, is_given_up_at}
 use Rattle.run_record.specs.Numbers.{as_told}
-use Rattle.run_record.specs.Tallies.{counted_once, grown_by, no_tally, number_behind, tallied_by, tally_given_up}
-use Rattle.run_record.specs.declared.tally.Passage.TheVariants as passage
+use Rattle.run_record.specs.Tallies.{grown_by, no_tally, number_behind, tallied_by, tally_given_up}
 use Rattle.run_record.specs.declared.tally.Tally.{Tally}
 
 -- these counts, each at most the greatest number

@@ -85,7 +85,7 @@ tick_line_text names tick accesses one = numbered (codes " @") accesses ++ tick_
 -- A blank, the word for an event, and the name of its host. The frame's size in bytes follows for a send, the socket's number for a recv.
 -- An event that is a tick has only the word `tick`.
 abbrev pub event_text : (names : List (List ℕ)) → Event → List ℕ
-event_text names (event.Send host frame ticks) = (codes " send " ++ name_at names host) ++ numbered (codes " ") (length frame.items)
+event_text names (event.Send host frame ticks) = (codes " send " ++ name_at names host) ++ numbered (codes " ") (length frame.now)
 event_text names (event.Recv host socket ticks) = (codes " recv " ++ name_at names host) ++ numbered (codes " ") socket
 event_text names (event.Interrupt host ticks) = codes " interrupt " ++ name_at names host
 event_text names (event.Reset host ticks) = codes " reset " ++ name_at names host

@@ -28,7 +28,7 @@ pub record HearsTicks (old new : Record) (ticks : List TickTold) : Type 0 where
 
 -- the happenings that an event's answer reports: frames accepted by a send, returned by a recv, or given up by a reset
 abbrev pub answered : Event → FrameAnswer → List Happening
-answered (event.Send host frame ticks) answer = accepted_by_answer host frame.items answer
+answered (event.Send host frame ticks) answer = accepted_by_answer host frame.now answer
 answered (event.Recv host socket ticks) answer = given_by_answer host socket answer
 answered (event.Reset host ticks) answer = given_up_of host answer
 answered one answer = []
@@ -65,8 +65,8 @@ pub record TellsReset (host : ℕ) (given_up ticked happened : List Happening) :
 -- has another answer than a reset's, and its happenings are only those of its ticks.
 abbrev pub IsInOrder : Event → Reply → Type 0
 IsInOrder (event.Reset host ticks) reply =
-    ((said (event.Reset host ticks) reply ≡ tick_happenings ticks.items reply.outcomes.list) × (given_up_of host reply.answer ≡ []))
-    ⊎ TellsReset host (given_up_of host reply.answer) (tick_happenings ticks.items reply.outcomes.list)
+    ((said (event.Reset host ticks) reply ≡ tick_happenings ticks.now reply.outcomes.list) × (given_up_of host reply.answer ≡ []))
+    ⊎ TellsReset host (given_up_of host reply.answer) (tick_happenings ticks.now reply.outcomes.list)
     (said (event.Reset host ticks) reply)
 IsInOrder one reply = Unit {0}
 

@@ -161,7 +161,7 @@ pub(crate) fn push_told(
 
 /// Appends an event as scenarios spell it, but without the address of a group and without ticks. The size of a frame
 /// in bytes replaces its bytes. For an event that is a tick, appends only the word `tick`.
-fn push_event(text: &mut Vec<u8>, names: &[String], event: &Event) -> Result<(), AllocError>
+fn push_event(text: &mut Vec<u8>, names: &[String], event: &Event<'_>) -> Result<(), AllocError>
     ensures { OnOk result
         (text.new.items ≡ text.old.items ++ texts.event_text (map string_bytes names.now) event.now) }
 {
@@ -288,7 +288,7 @@ pub(crate) fn push_line(
     text: &mut Vec<u8>,
     names: &[String],
     place: Place,
-    event: &Event,
+    event: &Event<'_>,
     accesses: u64,
     answer: &Answer<()>,
     frame: &[u8],

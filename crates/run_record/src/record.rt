@@ -226,7 +226,7 @@ impl Record {
 
     /// Makes room for what is recorded of an event with `ticks` ticks.
     #[inline(always)]
-    fn reserve(&mut self, event: &Event, ticks: usize) -> Result<(), AllocError>
+    fn reserve(&mut self, event: &Event<'_>, ticks: usize) -> Result<(), AllocError>
         ensures { self.new ≡ self.old }
     {
         reserve_puts(&mut self.puts, ticks)?;
@@ -240,7 +240,7 @@ impl Record {
     /// Counts the answer to an event if it is a refusal, and records the event's line if lines are recorded. Sets
     /// `failed` if memory was refused.
     #[inline(always)]
-    fn note_line(&mut self, event: &Event, accesses: u64, answer: &Answer<()>, frame: &[u8])
+    fn note_line(&mut self, event: &Event<'_>, accesses: u64, answer: &Answer<()>, frame: &[u8])
         ensures { NotesLine event.now accesses (answer_with frame.now answer.now) self.old self.new }
     {
         let place = Place {
@@ -274,7 +274,7 @@ impl Record {
     /// Counts the frames that the answer to a send, a recv or a reset reports, and records the frame that a socket
     /// returned. Changes nothing for other events.
     #[inline(always)]
-    fn note_answer(&mut self, event: &Event, answer: &Answer<()>, frame: &[u8])
+    fn note_answer(&mut self, event: &Event<'_>, answer: &Answer<()>, frame: &[u8])
         requires fits { length frame.now ≤ 1518 }
         ensures { NotesAnswer (answered event.now (answer_with frame.now answer.now)) self.old self.new }
     {
@@ -343,14 +343,14 @@ impl RunObserver for Record {
     ghost composes_runs = { record_composes };
 
     #[inline(always)]
-    fn make_room(&mut self, event: &Event, ticks: usize) -> bool {
+    fn make_room(&mut self, event: &Event<'_>, ticks: usize) -> bool {
         !self.failed && self.reserve(event, ticks).is_ok()
     }
 
     // The record changes as `NotesLine` and then `NotesAnswer` state. Then `number` grows by 1, unless it is the
     // greatest `u64`.
     #[inline(always)]
-    fn answer(&mut self, event: &Event, accesses: u64, answer: Answer<()>, frame: &[u8]) {
+    fn answer(&mut self, event: &Event<'_>, accesses: u64, answer: Answer<()>, frame: &[u8]) {
         self.note_line(event, accesses, &answer, frame);
         self.note_answer(event, &answer, frame);
         self.number = self.number.saturating_add(1);

@@ -194,7 +194,7 @@ impl RunLog {
     pub(crate) fn end(
         &mut self,
         place: Place,
-        event: &Event,
+        event: &Event<'_>,
         accesses: u64,
         answer: &Answer<()>,
         frame: &[u8],

@@ -11,15 +11,14 @@ use Rattle.stations.specs.declared.tick.Tick.{Tick}
 use Rattle.stations.specs.declared.tick.Tick.TheVariants as tick
 use Rattle.scenario.specs.HostOptions.{AreCounted, AreRead, options_asked, uses_in}
 use Rattle.scenario.specs.SoFar.{Host, Said, SoFar, Sends, Receives, Interrupts, Resets, Joins, Leaves, Ticks, Feeds, Draws, Drains}
-use Rattle.scenario.specs.SoFar.{has_name, host_place}
+use Rattle.scenario.specs.SoFar.{has_name, host_place, said_of_call}
 use Rattle.scenario.specs.Spellings.{IsAddressText, IsFrame, address_in, frame_in, socket_in}
 use Rattle.text.specs.Numbers.{is_number}
 use Rattle.text.specs.Words.{words_after, words_before}
 use Rattle.scenario.specs.TickWords.{is_tick, tick_named}
 use Rattle.scenario.specs.Words.{Text, word}
 use Rattle.scenario.specs.declared.host_use.HostOptions.{HostOptions}
-use Rattle.scenario.specs.declared.event_line.Asked.{Asked}
-use Rattle.scenario.specs.declared.event_line.Asked.TheVariants as asked
+use Rattle.scenario.specs.declared.call.Call.{Call}
 use Rattle.scenario.specs.declared.host_change.Item.{Item}
 use Rattle.scenario.specs.declared.host_change.Item.TheVariants as items
 use Rattle.scenario.specs.declared.line_kind.CallKind.{CallKind}
@@ -229,15 +228,6 @@ changing name change before = with_hosts (changed_first (has_name name) change b
 abbrev pub saying : Said → SoFar → SoFar
 saying said before = record before { commands = before.commands ++ said ∷ [] }
 
--- the event of this call at a host, during which these ticks are played
-abbrev pub said_asking : Asked → (host : ℕ) (ticks : List Tick) → Said
-said_asking (asked.Send frame) host ticks = Sends host frame.items ticks
-said_asking (asked.Recv socket) host ticks = Receives host socket ticks
-said_asking asked.Interrupt host ticks = Interrupts host ticks
-said_asking asked.Reset host ticks = Resets host ticks
-said_asking (asked.Join group) host ticks = Joins host group ticks
-said_asking (asked.Leave group) host ticks = Leaves host group ticks
-
 -- the event of a call of this kind with these words, at a host, during which these ticks are played
 abbrev pub said_in_call : CallKind → (words : List Text) (host : ℕ) (ticks : List Tick) → Said
 said_in_call call.Send words host ticks = Sends host (frame_in (word 2 words)) ticks
@@ -248,9 +238,9 @@ said_in_call call.Join words host ticks = Joins host (address_in (word 2 words))
 said_in_call call.Leave words host ticks = Leaves host (address_in (word 2 words)) ticks
 
 -- The words of a call of this kind have the forms for their places, and spell the call `one`.
-pub record IsAsked (kind : CallKind) (words : List Text) (one : Asked) : Type 0 where
+pub record IsAsked (kind : CallKind) (words : List Text) (one : Call) : Type 0 where
   pub form : CanAsk kind words
-  pub said : (host : ℕ) (ticks : List Tick) → said_asking one host ticks ≡ said_in_call kind words host ticks
+  pub said : (host : ℕ) (ticks : List Tick) → said_of_call one host ticks ≡ said_in_call kind words host ticks
 
 -- the number of the first host of this name, or 0 if there is no such host
 abbrev pub number_of : Text → List Host → ℕ

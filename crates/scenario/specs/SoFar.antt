@@ -10,6 +10,8 @@ use Rattle.network_plan.specs.declared.plan.HostPlan.{HostPlan}
 use Rattle.packet_socket.specs.declared.socket_kind.SocketKind.{SocketKind}
 use Rattle.stations.specs.declared.tick.Tick.{Tick}
 use Rattle.scenario.specs.Words.{Text}
+use Rattle.scenario.specs.declared.call.Call.{Call}
+use Rattle.scenario.specs.declared.call.Call.TheVariants as call
 use Rattle.scenario.specs.declared.command.Command.{Command}
 use Rattle.scenario.specs.declared.command.Command.TheVariants as command
 use Rattle.scenario.specs.declared.command.Scenario.{Scenario}
@@ -56,17 +58,27 @@ pub data Said : Type 0 where
 
 -- the command of an event
 abbrev pub command_of_event : Event → Said
-command_of_event (event.Send host frame ticks) = Sends host frame.items ticks.items
-command_of_event (event.Recv host socket ticks) = Receives host socket ticks.items
-command_of_event (event.Interrupt host ticks) = Interrupts host ticks.items
-command_of_event (event.Reset host ticks) = Resets host ticks.items
-command_of_event (event.Join host group ticks) = Joins host group ticks.items
-command_of_event (event.Leave host group ticks) = Leaves host group ticks.items
+command_of_event (event.Send host frame ticks) = Sends host frame.now ticks.now
+command_of_event (event.Recv host socket ticks) = Receives host socket ticks.now
+command_of_event (event.Interrupt host ticks) = Interrupts host ticks.now
+command_of_event (event.Reset host ticks) = Resets host ticks.now
+command_of_event (event.Join host group ticks) = Joins host group ticks.now
+command_of_event (event.Leave host group ticks) = Leaves host group ticks.now
 command_of_event (event.Tick tick) = Ticks tick
+
+-- the event of this call at a host, during which these ticks are played
+abbrev pub said_of_call : Call → (host : ℕ) (ticks : List Tick) → Said
+said_of_call (call.Send frame) host ticks = Sends host frame.items ticks
+said_of_call (call.Recv socket) host ticks = Receives host socket ticks
+said_of_call call.Interrupt host ticks = Interrupts host ticks
+said_of_call call.Reset host ticks = Resets host ticks
+said_of_call (call.Join group) host ticks = Joins host group ticks
+said_of_call (call.Leave group) host ticks = Leaves host group ticks
 
 -- a command of a scenario, with the bytes of its frame and the list of its ticks
 abbrev pub said_of : Command → Said
-said_of (command.Event one) = command_of_event one
+said_of (command.Call host one ticks) = said_of_call one host ticks.items
+said_of (command.Tick tick) = Ticks tick
 said_of (command.Feed host trace) = Feeds host trace
 said_of (command.Auto count start) = Draws count start
 said_of (command.Drain host) = Drains host

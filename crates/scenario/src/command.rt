@@ -1,13 +1,24 @@
 // A scenario and its commands.
 
+use crate::call::Call;
 use crate::tick_word::host_named;
-use network_plan::{Event, HostPlan, Plan};
+use network_plan::{HostPlan, Plan};
+use stations::Tick;
 
 /// A command of a scenario.
 #[derive(Drop)]
 pub enum Command {
-    /// An event.
-    Event(Event),
+    /// A call of a host.
+    Call {
+        /// The number of the host, from 0 in the order of the plan.
+        host: usize,
+        /// What the host is asked to do.
+        call: Call,
+        /// The ticks that are played during the call.
+        ticks: Vec<Tick>,
+    },
+    /// A tick outside a call.
+    Tick(Tick),
     /// For each frame of a trace, the events by which a host sends the frame, and the other hosts on its wire receive
     /// the frame.
     Feed {

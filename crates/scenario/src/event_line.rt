@@ -5,19 +5,20 @@ ghost use Rattle.std.specs.Option.{SomeIff};
 ghost use Rattle.std.specs.Str.Parse.{digits_value};
 ghost use Rattle.scenario.specs.Answers.{AreTicks, IsAnswerToLine, IsCall, IsFaultyCall};
 ghost use Rattle.scenario.specs.Meanings as meanings;
-ghost use Rattle.scenario.specs.SoFar.{command_of_event, hosts_of, said_of, so_far};
+ghost use Rattle.scenario.specs.SoFar.{hosts_of, said_of, so_far};
 ghost use Rattle.scenario.specs.Stops.{IfFault};
 ghost use Rattle.scenario.specs.Words.{texts};
 ghost use Rattle.scenario.specs.declared.line_kind.LineKind.TheVariants as line;
 ghost use Rattle.scenario.specs.declared.refusal.Fault.TheVariants as faults;
 ghost use Rattle.scenario.specs.declared.refusal.Stop.TheVariants as stops;
 
+use crate::call::Call;
 use crate::command::{Command, Scenario};
 use crate::line_kind::CallKind;
 use crate::refusal::{Fault, Stop};
 use crate::spelling::{address_of, frame_of, number_of};
 use crate::tick_word::{host_named, is_tick, tick_of};
-use network_plan::{Event, HostPlan};
+use network_plan::HostPlan;
 use stations::Tick;
 use std::alloc::Global;
 use text::{split_at_word, word_at};
@@ -90,43 +91,6 @@ fn say(scenario: &mut Scenario, command: Command) -> Result<(), Stop>
     Ok(())
 }
 
-/// What a call asks its host to do, without the ticks that are played during the call.
-#[derive(Drop)]
-enum Asked {
-    /// To send a frame.
-    Send(Vec<u8>),
-    /// To return the oldest frame of the socket with this number.
-    Recv(usize),
-    /// To handle an interrupt.
-    Interrupt,
-    /// To reset its adapter.
-    Reset,
-    /// To join a group.
-    Join([u8; 6]),
-    /// To leave a group.
-    Leave([u8; 6]),
-}
-
-impl Asked {
-    /// Returns the event of this call at a host, during which these ticks are played.
-    fn event(self, host: usize, ticks: Vec<Tick>) -> Event
-        ensures { command_of_event result ≡ meanings.said_asking self host ticks.items }
-    {
-        match self {
-            Asked::Send(frame) => Event::Send { host, frame, ticks },
-            Asked::Recv(socket) => Event::Recv {
-                host,
-                socket,
-                ticks,
-            },
-            Asked::Interrupt => Event::Interrupt { host, ticks },
-            Asked::Reset => Event::Reset { host, ticks },
-            Asked::Join(group) => Event::Join { host, group, ticks },
-            Asked::Leave(group) => Event::Leave { host, group, ticks },
-        }
-    }
-}
-
 /// Returns the number of words of a call of this kind, without the slash and the ticks.
 fn size_of_call(kind: CallKind) -> usize
     ensures { result ≡ meanings.size_of_call kind }
@@ -137,13 +101,13 @@ fn size_of_call(kind: CallKind) -> usize
     }
 }
 
-/// Returns what the words of a call ask its host to do.
+/// Returns the call that these words spell.
 ///
 /// # Errors
 ///
 /// [`Value`](Fault::Value) if a word doesn't have the form for its place, or [`Memory`](Stop::Memory) if memory is
 /// refused.
-fn asked_of(alloc: Global, kind: CallKind, call: &[&str]) -> Result<Asked, Stop>
+fn asked_of(alloc: Global, kind: CallKind, call: &[&str]) -> Result<Call, Stop>
     requires { length call.now ≡ meanings.size_of_call kind }
     ensures ok { IfOk result (meanings.IsAsked kind (texts call.now)) }
     ensures err { IfErr result (λ stop. IfFault stop (λ fault.
@@ -151,21 +115,21 @@ fn asked_of(alloc: Global, kind: CallKind, call: &[&str]) -> Result<Asked, Stop>
 {
     match kind {
         CallKind::Send => match frame_of(alloc, word_at(call, 2)) {
-            Ok(frame) => Ok(Asked::Send(frame)),
+            Ok(frame) => Ok(Call::Send(frame)),
             Err(stop) => Err(stop),
         },
         CallKind::Recv => match number_of(word_at(call, 2)) {
-            Some(socket) => Ok(Asked::Recv(socket as usize)),
+            Some(socket) => Ok(Call::Recv(socket as usize)),
             None => Err(Stop::Fault(Fault::Value)),
         },
-        CallKind::Interrupt => Ok(Asked::Interrupt),
-        CallKind::Reset => Ok(Asked::Reset),
+        CallKind::Interrupt => Ok(Call::Interrupt),
+        CallKind::Reset => Ok(Call::Reset),
         CallKind::Join => match address_of(word_at(call, 2)) {
-            Some(group) => Ok(Asked::Join(group)),
+            Some(group) => Ok(Call::Join(group)),
             None => Err(Stop::Fault(Fault::Value)),
         },
         CallKind::Leave => match address_of(word_at(call, 2)) {
-            Some(group) => Ok(Asked::Leave(group)),
+            Some(group) => Ok(Call::Leave(group)),
             None => Err(Stop::Fault(Fault::Value)),
         },
     }
@@ -181,13 +145,13 @@ pub(crate) fn read_call(
 ) -> Result<(), Stop>
     ensures { IsAnswerToLine (line.Call kind) (so_far scenario.old) (texts words.now) result (so_far scenario.new) }
 {
-    let (call, ticks) = split_at_word(words, SLASH);
-    if call.len() != size_of_call(kind) {
+    let (words, ticks) = split_at_word(words, SLASH);
+    if words.len() != size_of_call(kind) {
         return Err(Stop::Fault(Fault::Count));
     }
-    let asked = asked_of(alloc, kind, call)?;
-    let (host, ticks) = call_of(alloc, scenario.hosts(), word_at(call, 1), ticks)?;
-    say(scenario, Command::Event(asked.event(host, ticks)))
+    let call = asked_of(alloc, kind, words)?;
+    let (host, ticks) = call_of(alloc, scenario.hosts(), word_at(words, 1), ticks)?;
+    say(scenario, Command::Call { host, call, ticks })
 }
 
 /// Reads a line `tick TICK`.
@@ -204,7 +168,7 @@ pub(crate) fn read_tick(scenario: &mut Scenario, words: &[&str]) -> Result<(), S
     let Some(tick) = tick_of(scenario.hosts(), word) else {
         return Err(Stop::Fault(Fault::Name));
     };
-    say(scenario, Command::Event(Event::Tick(tick)))
+    say(scenario, Command::Tick(tick))
 }
 
 /// Reads a line `feed HOST FILE`.

@@ -4,6 +4,7 @@
 //! line, or that memory was refused.
 #![tactic(auto)]
 
+mod call;
 mod command;
 mod event_line;
 mod host_change;
@@ -17,6 +18,7 @@ mod setup_line;
 mod spelling;
 mod tick_word;
 
+pub use call::Call;
 pub use command::{Command, Scenario};
 pub use law::texts_are_read_or_refused;
 pub use refusal::{Fault, Refusal};

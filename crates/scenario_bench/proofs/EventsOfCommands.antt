@@ -11,7 +11,7 @@ use Rattle.registers.specs.Image.{address_bytes}
 use Rattle.network_plan.specs.declared.plan.HostPlan.{HostPlan}
 use Rattle.stations.specs.declared.tick.Tick.TheVariants.{Deliver, Step}
 use Rattle.scenario.specs.SoFar.{Host, Said, Interrupts, Receives, Ticks, host_of_plan, hosts_of}
-use Rattle.scenario_bench.specs.EventLists.{host_address, arrival_at, event_drawn, event_of_kind, moves_of_pieces}
+use Rattle.scenario_bench.specs.EventLists.{arrival_at, broadcast_of, event_drawn, event_of_kind, host_address, late_frame, moves_of_pieces}
 
 moves-more : (host piece : ℕ) → moves_of_pieces host (piece + 1)
     ≡ moves_of_pieces host piece ++ Ticks (Step host RxData) ∷ Ticks (Step host RxDone) ∷ []
@@ -57,9 +57,12 @@ address_of-there plans host plan below =
     (slice_get-map host_of_plan plans host ∙ ap (option_map host_of_plan) (slice_get-get_or plans host plan below))
 
 pub event_drawn-there : (plans : List HostPlan) (word : ℕ) (plan : HostPlan) → 0 < length plans
-    → event_drawn (hosts_of plans) word
-    ≡ event_of_kind (word % 8) (word / 8 % length plans) (address_bytes (get_or plans (word / 8 % length plans) plan).image)
+    → let host = word / 8 % length plans in event_drawn (hosts_of plans) word
+    ≡ event_of_kind (word % 8) host (broadcast_of (address_bytes (get_or plans host plan).image)) (late_frame host)
 event_drawn-there plans word plan some =
     let host = word / 8 % length plans in
-    ap (λ (n : ℕ). event_of_kind (word % 8) (word / 8 % n) (host_address (hosts_of plans) (word / 8 % n))) (length-map plans host_of_plan)
-    ∙ ap (event_of_kind (word % 8) host) (address_of-there plans host plan (omega arith))
+    let address = host_address (hosts_of plans) in
+    ap (λ (n : ℕ). event_of_kind (word % 8) (word / 8 % n) (broadcast_of (address (word / 8 % n))) (late_frame (word / 8 % n)))
+    (length-map plans host_of_plan)
+    ∙ ap (λ (bytes : List ℕ). event_of_kind (word % 8) host (broadcast_of bytes) (late_frame host))
+    (address_of-there plans host plan (omega arith))

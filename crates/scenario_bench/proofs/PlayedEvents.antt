@@ -240,31 +240,27 @@ draw_stops event words left word generator later said a b c error has some is sa
     ∙ map-append event has.done (word ∷ words_from (left - 1) later)
     ∙ ap (λ (s : Said). map event has.done ++ s ∷ map event (words_from (left - 1) later)) (sym said_is)) has.played stops
 
-pub sent : (hosts : List Host) (sender : ℕ) (frame : List ℕ) (one : Said) (events : List Event) (a b c : Play)
-    → one ≡ Sends sender frame [] → HasPlayed (one ∷ []) a b
+pub sent : (hosts : List Host) (sender : ℕ) (frame : List ℕ) (events : List Event) (a b c : Play)
+    → HasPlayed (Sends sender frame [] ∷ []) a b
     → map command_of_event events ≡ behind_send hosts sender (pieces_for (length frame)) → HasPlayed (map command_of_event events) b c
     → HasPlayed (fed hosts sender frame) a c
-sent hosts sender frame one events a b c is first follows second =
-    subst (λ (said : List Said). HasPlayed said a c)
-    (ap (λ (s : Said). s ∷ map command_of_event events) is ∙ ap (λ (s : List Said). Sends sender frame [] ∷ s) follows)
-    (played_join (one ∷ []) (map command_of_event events) a b c first second)
+sent hosts sender frame events a b c first follows second =
+    subst (λ (said : List Said). HasPlayed said a c) (ap (λ (s : List Said). Sends sender frame [] ∷ s) follows)
+    (played_join (Sends sender frame [] ∷ []) (map command_of_event events) a b c first second)
 
-pub send_stops : (hosts : List Host) (sender : ℕ) (frame : List ℕ) (one : Said) (a b : Play) (error : BenchError)
-    → one ≡ Sends sender frame [] → StopsWithin (one ∷ []) a b error → StopsWithin (fed hosts sender frame) a b error
-send_stops hosts sender frame one a b error is stops =
-    let behind = behind_send hosts sender (pieces_for (length frame)) in
-    stops_behind (fed hosts sender frame) [] (one ∷ []) behind a a b error (ap (λ (s : Said). s ∷ behind) (sym is)) (played_none a)
-    stops
+pub send_stops : (hosts : List Host) (sender : ℕ) (frame : List ℕ) (a b : Play) (error : BenchError)
+    → StopsWithin (Sends sender frame [] ∷ []) a b error → StopsWithin (fed hosts sender frame) a b error
+send_stops hosts sender frame a b error stops =
+    stops_behind (fed hosts sender frame) [] (Sends sender frame [] ∷ []) (behind_send hosts sender (pieces_for (length frame))) a a b error
+    refl (played_none a) stops
 
-pub behind_stops : (hosts : List Host) (sender : ℕ) (frame : List ℕ) (one : Said) (events : List Event) (a b c : Play)
-    (error : BenchError) → one ≡ Sends sender frame [] → HasPlayed (one ∷ []) a b
-    → map command_of_event events ≡ behind_send hosts sender (pieces_for (length frame))
+pub behind_stops : (hosts : List Host) (sender : ℕ) (frame : List ℕ) (events : List Event) (a b c : Play) (error : BenchError)
+    → HasPlayed (Sends sender frame [] ∷ []) a b → map command_of_event events ≡ behind_send hosts sender (pieces_for (length frame))
     → StopsWithin (map command_of_event events) b c error
     → StopsWithin (fed hosts sender frame) a c error
-behind_stops hosts sender frame one events a b c error is first follows stops =
-    stops_behind (fed hosts sender frame) (one ∷ []) (map command_of_event events) [] a b c error
-    (ap (λ (s : List Said). Sends sender frame [] ∷ s) (sym follows ∙ sym (append-nil (map command_of_event events)))
-    ∙ ap (λ (s : Said). s ∷ (map command_of_event events ++ [])) (sym is)) first stops
+behind_stops hosts sender frame events a b c error first follows stops =
+    stops_behind (fed hosts sender frame) (Sends sender frame [] ∷ []) (map command_of_event events) [] a b c error
+    (ap (λ (s : List Said). Sends sender frame [] ∷ s) (sym follows ∙ sym (append-nil (map command_of_event events)))) first stops
 
 -- Commands
 
@@ -289,11 +285,8 @@ as-event hosts traces (event.Leave host group ticks) = refl
 as-event hosts traces (event.Tick tick) = refl
 
 pub of_event : (Holds : List Said → Type 0) (hosts : List Host) (traces : List (List (List ℕ))) (one : Command) (event : Event)
-    (list : List Event) → one ≡ command.Event event → list ≡ event ∷ [] → Holds (map command_of_event list)
-    → Holds (events_of hosts traces (said_of one))
-of_event Holds hosts traces one event list is same holds =
-    subst Holds (ap (map command_of_event) same ∙ as-event hosts traces event
-    ∙ sym (ap (λ (c : Command). events_of hosts traces (said_of c)) is)) holds
+    → command_of_event event ≡ said_of one → Holds (command_of_event event ∷ []) → Holds (events_of hosts traces (said_of one))
+of_event Holds hosts traces one event is holds = subst Holds (as-event hosts traces event ∙ ap (events_of hosts traces) is) holds
 
 pub of_no_feed : (hosts : List Host) (traces : List Trace) (one : Command) (host place : ℕ) (a : Play)
     → one ≡ command.Feed host place → length traces ≤ place

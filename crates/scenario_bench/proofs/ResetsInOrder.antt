@@ -90,12 +90,12 @@ event-in_order a (event.Reset host ticks) reply b runs = elim (slice_get_cases a
       let now = slice_get-some b.hosts host (let below = there.1 in let same = runs.go.hosts in omega (arith, below, same)) in
       let h = there.0 in
       let stood = runs.stood.each host h there.2 in
-      inr (host-tells host ticks.items reply runs.steps h now.0 a.stations b.stations (runs.answer h now.0 there.2 now.1) runs.go.leads
+      inr (host-tells host ticks.now reply runs.steps h now.0 a.stations b.stations (runs.answer h now.0 there.2 now.1) runs.go.leads
       runs.replied.played runs.replied.outcomes (few-slots h.driver.layout stood.ready.ready.driver_is.addresses))
   | inr past ↦
       let absent = runs.replied.no_host.1 past.0 in
       inl (
-        ap (λ (one : FrameAnswer). said_in_reset host (reset_answer one) ticks.items reply.outcomes.list) absent,
+        ap (λ (one : FrameAnswer). said_in_reset host (reset_answer one) ticks.now reply.outcomes.list) absent,
         ap (given_up_of host) absent,
       )
 ]

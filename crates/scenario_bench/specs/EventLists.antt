@@ -73,24 +73,25 @@ host_address hosts host = unwrap_or (option_map (λ (one : Host). address_bytes 
 abbrev pub late_frame : (host : ℕ) → List Tick
 late_frame host = Go ∷ Step host RxData ∷ Step host RxDone ∷ []
 
--- the event of this kind at a host with this address; each number from 7 on is the last kind, a send
-abbrev pub event_of_kind : (kind host : ℕ) (address : List ℕ) → Said
-event_of_kind kind host address =
+-- the event of this kind at a host; each number from 7 on is the last kind. `ticks` are those of an interrupt, and
+-- `frame` is that of a send.
+abbrev pub event_of_kind : (kind host : ℕ) (frame : List ℕ) (ticks : List Tick) → Said
+event_of_kind kind host frame ticks =
     if kind == 0 then Ticks (Step host TxTake)
     else if kind == 1 then Ticks (Step host TxPut)
     else if kind == 2 then Ticks (Step host RxData)
     else if kind == 3 then Ticks (Step host RxDone)
     else if kind == 4 then Ticks (Deliver host)
-    else if kind == 5 then Interrupts host (late_frame host)
+    else if kind == 5 then Interrupts host ticks
     else if kind == 6 then Receives host 0 []
-    else Sends host (broadcast_of address) []
+    else Sends host frame []
 
 -- The event that a random word draws. The word's low three bits choose the kind, and the other bits, modulo the number
 -- of hosts, choose the host.
 abbrev pub event_drawn : List Host → (word : ℕ) → Said
 event_drawn hosts word =
     let host = word / 8 % length hosts in
-    event_of_kind (word % 8) host (host_address hosts host)
+    event_of_kind (word % 8) host (broadcast_of (host_address hosts host)) (late_frame host)
 
 -- the events of a command, or its drain; `traces` are the traces of the scenario's `feed` lines, in order. A `feed`
 -- without its trace has no events.

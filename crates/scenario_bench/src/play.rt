@@ -24,7 +24,7 @@ ghost use Rattle.stations.specs.Stations.{world_at};
 ghost use Rattle.host_calls.specs.Networks.{IsHost};
 
 use crate::bench_error::BenchError;
-use crate::events::{EventMemory, EventsAfterSend, pieces_of};
+use crate::events::{Drawn, EventsAfterSend, pieces_of};
 use crate::socket_list::sockets;
 use crate::summary::{HostSummary, Summary};
 use crate::wire_list::wires;
@@ -98,7 +98,7 @@ impl Play {
     /// `Run` with the number of events and drains done before this event. If memory is refused for the record, the
     /// error is `Memory`.
     #[inline(always)]
-    fn run(&mut self, events: &[Event]) -> Result<(), BenchError>
+    fn run(&mut self, events: &[Event<'_>]) -> Result<(), BenchError>
         ensures ok { OnOk result (HasPlayed (map command_of_event events.now) self.old self.new) }
         ensures err { IfErr result (StopsWithin (map command_of_event events.now) self.old self.new) }
     {
@@ -128,23 +128,19 @@ impl Play {
         Ok(())
     }
 
-    /// Runs an event, and takes its memory back into `memory`.
+    /// Runs an event, and records its outcomes and answer.
     #[inline(always)]
-    fn run_one(&mut self, memory: &mut EventMemory, event: Event) -> Result<(), BenchError>
-        ensures ok { OnOk result (HasPlayed (command_of_event event ∷ []) self.old self.new) }
-        ensures err { IfErr result (StopsWithin (command_of_event event ∷ []) self.old self.new) }
+    fn run_one(&mut self, event: Event<'_>) -> Result<(), BenchError>
+        ensures ok { OnOk result (HasPlayed (command_of_event event.entry ∷ []) self.old self.new) }
+        ensures err { IfErr result (StopsWithin (command_of_event event.entry ∷ []) self.old self.new) }
     {
-        let mut event = event;
-        let ran = self.run(std::slice::from_ref(&event));
-        memory.take_back(&mut event);
-        ran
+        self.run(&[event])
     }
 
     /// Runs the events of `feed` for one frame from a host: the send, the steps that put the frame on the host's wire,
     /// and the events by which the frame arrives at the other hosts on this wire.
     fn feed_frame(
         &mut self,
-        memory: &mut EventMemory,
         behind: &mut EventsAfterSend,
         plans: &[HostPlan],
         host: usize,
@@ -155,8 +151,11 @@ impl Play {
         ensures err { IfErr result (StopsWithin (lists.fed (hosts_of plans.now) host frame.now) self.old self.new) }
         ensures kept { AreOfSender (hosts_of plans.now) host behind.new }
     {
-        let event = memory.send_event(host, frame)?;
-        self.run_one(memory, event)?;
+        self.run_one(Event::Send {
+            host,
+            frame,
+            ticks: &[],
+        })?;
         behind.make(plans, host, pieces_of(frame.len()))?;
         self.run(behind.list.as_slice())
     }
@@ -165,7 +164,7 @@ impl Play {
     #[tactic(auto, using(crate::proofs::PlayedEvents::all_fed))]
     fn feed(
         &mut self,
-        memory: &mut EventMemory,
+        alloc: Global,
         plans: &[HostPlan],
         host: usize,
         trace: &Trace,
@@ -175,22 +174,16 @@ impl Play {
         ensures err { IfErr result (StopsWithin
             (flat_map (lists.fed (hosts_of plans.now) host) trace.now.frames) self.old self.new) }
     {
-        let mut behind = EventsAfterSend::new(memory.alloc);
+        let mut behind = EventsAfterSend::new(alloc);
         for frame in trace.frames.iter() {
-            self.feed_frame(memory, &mut behind, plans, host, frame)?;
+            self.feed_frame(&mut behind, plans, host, frame)?;
         }
         Ok(())
     }
 
     /// Draws `count` random events one at a time, and runs each of them. `start` is the generator's seed.
     #[tactic(auto, using(crate::proofs::PlayedEvents::all_drawn, crate::proofs::PlayedEvents::none_drawn))]
-    fn draw(
-        &mut self,
-        memory: &mut EventMemory,
-        plans: &[HostPlan],
-        count: u32,
-        start: u64,
-    ) -> Result<(), BenchError>
+    fn draw(&mut self, plans: &[HostPlan], count: u32, start: u64) -> Result<(), BenchError>
         requires { 0 < length plans.now }
         ensures ok { OnOk result (HasPlayed
             (map (lists.event_drawn (hosts_of plans.now)) (lists.words_drawn count start)) self.old self.new) }
@@ -200,8 +193,8 @@ impl Play {
         let mut generator = Lcg64Xsh32::seed_from_u64(start);
         let mut left = count;
         while left > 0 {
-            let event = memory.drawn(plans, generator.next_word())?;
-            self.run_one(memory, event)?;
+            let drawn = Drawn::new(plans, generator.next_word());
+            self.run_one(drawn.event())?;
             left -= 1;
         }
         Ok(())
@@ -210,7 +203,7 @@ impl Play {
     /// Runs the events of a command, or its drain. Runs no event for a `feed` if its trace isn't in `traces`.
     fn command(
         &mut self,
-        memory: &mut EventMemory,
+        alloc: Global,
         plans: &[HostPlan],
         traces: &[Trace],
         command: &Command,
@@ -224,12 +217,15 @@ impl Play {
             self.old self.new) }
     {
         match command {
-            Command::Event(event) => self.run(std::slice::from_ref(event)),
+            Command::Call { host, call, ticks } => {
+                self.run_one(call.event(*host, ticks.as_slice()))
+            }
+            Command::Tick(tick) => self.run_one(Event::Tick(*tick)),
             Command::Feed { host, trace } => match traces.get(*trace) {
-                Some(trace) => self.feed(memory, plans, *host, trace),
+                Some(trace) => self.feed(alloc, plans, *host, trace),
                 None => Ok(()),
             },
-            Command::Auto { count, start } => self.draw(memory, plans, *count, *start),
+            Command::Auto { count, start } => self.draw(plans, *count, *start),
             Command::Drain { host } => self.drain(*host),
         }
     }
@@ -252,13 +248,12 @@ impl Play {
         ensures err { IfErr result (StopsWithin (lists.all_events (hosts_of plans.now) (map trace_frames traces.now)
             (map said_of commands.now)) self.old self.new) }
     {
-        let mut memory = EventMemory::new(alloc);
         let mut left = commands;
         while let Some((command, later)) = left.split_first() {
             let place = commands.len().saturating_sub(left.len());
             self.record.line = lines.get(place).copied().unwrap_or(0);
             let before = self.record.log.refusals;
-            self.command(&mut memory, plans, traces, command)?;
+            self.command(alloc, plans, traces, command)?;
             self.asked = asked_after(self.asked, command, before, self.record.log.refusals);
             left = later;
         }

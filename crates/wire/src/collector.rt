@@ -82,11 +82,11 @@ impl RunObserver for Collector {
 
     ghost composes_runs = { replies_compose };
 
-    fn make_room(&mut self, _event: &Event, ticks: usize) -> bool {
+    fn make_room(&mut self, _event: &Event<'_>, ticks: usize) -> bool {
         self.reserve(ticks).is_ok()
     }
 
-    fn answer(&mut self, _event: &Event, accesses: u64, answer: Answer<()>, frame: &[u8]) {
+    fn answer(&mut self, _event: &Event<'_>, accesses: u64, answer: Answer<()>, frame: &[u8]) {
         // `reserve` allocated this memory before the event, so there is a frame.
         if let Some(mut given) = self.frame.take() {
             given.fill(frame);

@@ -45,44 +45,41 @@ pub(crate) enum Part<'a> {
 impl<'a> Part<'a> {
     /// Returns the call, the reset or the tick of an event.
     #[inline(always)]
-    pub(crate) fn of(event: &'a Event) -> Part<'a>
-        ensures { part_in result ≡ in_event event.now }
+    pub(crate) fn of(event: Event<'a>) -> Part<'a>
+        ensures { part_in result ≡ in_event event.entry }
     {
         match event {
             Event::Send { host, frame, ticks } => Part::Call(Call {
-                host: *host,
-                call: HostCall::Send(frame.as_slice()),
-                ticks: ticks.as_slice(),
+                host,
+                call: HostCall::Send(frame),
+                ticks,
             }),
             Event::Recv {
                 host,
                 socket,
                 ticks,
             } => Part::Call(Call {
-                host: *host,
-                call: HostCall::Recv(*socket),
-                ticks: ticks.as_slice(),
+                host,
+                call: HostCall::Recv(socket),
+                ticks,
             }),
             Event::Interrupt { host, ticks } => Part::Call(Call {
-                host: *host,
+                host,
                 call: HostCall::Interrupt,
-                ticks: ticks.as_slice(),
+                ticks,
             }),
             Event::Join { host, group, ticks } => Part::Call(Call {
-                host: *host,
-                call: HostCall::Join(*group),
-                ticks: ticks.as_slice(),
+                host,
+                call: HostCall::Join(group),
+                ticks,
             }),
             Event::Leave { host, group, ticks } => Part::Call(Call {
-                host: *host,
-                call: HostCall::Leave(*group),
-                ticks: ticks.as_slice(),
+                host,
+                call: HostCall::Leave(group),
+                ticks,
             }),
-            Event::Reset { host, ticks } => Part::Reset(Reset {
-                host: *host,
-                ticks: ticks.as_slice(),
-            }),
-            Event::Tick(tick) => Part::Tick(*tick),
+            Event::Reset { host, ticks } => Part::Reset(Reset { host, ticks }),
+            Event::Tick(tick) => Part::Tick(tick),
         }
     }
 }
@@ -108,7 +105,12 @@ fn ending_of(answer: HostAnswer<usize>) -> (Answer<()>, usize)
 /// Plays the ticks of a call or a reset for a host that doesn't exist, and reports the answer `NoHost` with 0
 /// accesses.
 #[inline(never)]
-fn no_host<O: RunObserver>(network: &mut Network, event: &Event, ticks: &[Tick], observer: &mut O)
+fn no_host<O: RunObserver>(
+    network: &mut Network,
+    event: &Event<'_>,
+    ticks: &[Tick],
+    observer: &mut O,
+)
     requires ready { O.ready observer.old event.now }
     requires room { length ticks.now ≤ O.room_left observer.old }
     requires ticks { without_go is_go ticks.now ≡ played_ticks event.now }
@@ -126,7 +128,7 @@ fn no_host<O: RunObserver>(network: &mut Network, event: &Event, ticks: &[Tick],
 #[inline(always)]
 pub(crate) fn make_call<O: RunObserver>(
     network: &mut Network,
-    event: &Event,
+    event: &Event<'_>,
     call: &Call,
     given: &mut [u8; 1518],
     observer: &mut O,
@@ -158,7 +160,7 @@ pub(crate) fn make_call<O: RunObserver>(
 pub(crate) fn make_reset<O: RunObserver>(
     network: &mut Network,
     alloc: Global,
-    event: &Event,
+    event: &Event<'_>,
     reset: &Reset,
     observer: &mut O,
 ) -> Result<(), AllocError>
@@ -193,7 +195,7 @@ pub(crate) fn make_reset<O: RunObserver>(
 #[inline(always)]
 pub(crate) fn tick<O: RunObserver>(
     network: &mut Network,
-    event: &Event,
+    event: &Event<'_>,
     tick: Tick,
     observer: &mut O,
 )

@@ -45,14 +45,18 @@ impl Lan {
     /// Returns an error only if the event is a reset of a host that exists, and memory for the dropped frames can't be
     /// allocated. After this error, the network and the observer haven't changed.
     #[inline(always)]
-    fn event<O: RunObserver>(&mut self, event: &Event, observer: &mut O) -> Result<(), AllocError>
+    fn event<O: RunObserver>(
+        &mut self,
+        event: &Event<'_>,
+        observer: &mut O,
+    ) -> Result<(), AllocError>
         requires room { HasRoomForEvent O.ready O.room_left event.now observer.old }
         ensures ok { OnOk result (EventTold O.ran event.now observer.old observer.new
             (λ reply. EventRuns self.old event.now reply self.new)) }
         ensures refused { IfErr result (λ error. IsResetOf (length self.old.hosts) (in_event event.now)
             × (self.new ≡ self.old) × (observer.new ≡ observer.old)) }
     {
-        match Part::of(event) {
+        match Part::of(*event) {
             Part::Call(call) => {
                 events::make_call(&mut self.network, event, &call, &mut self.given, observer);
                 Ok(())
@@ -79,7 +83,7 @@ impl Lan {
     #[inline(always)]
     pub fn play<O: RunObserver>(
         &mut self,
-        events: &[Event],
+        events: &[Event<'_>],
         observer: &mut O,
     ) -> Result<(), Stopped>
         ensures ok { OnOk result (RunTold O.ran events.now self.old self.new observer.old observer.new) }
@@ -121,7 +125,7 @@ impl Lan {
     pub fn run(
         &mut self,
         alloc: Global,
-        events: &[Event],
+        events: &[Event<'_>],
         replies: &mut Vec<Reply>,
     ) -> Result<(), Stopped>
         ensures ok { OnOk result (RunsTo self.old events.now replies.old.items replies.new.items self.new) }

@@ -32,7 +32,7 @@ pub trait RunObserver: Observer {
     /// Makes room for the answer of an event, and for the outcomes of its `ticks` ticks, before the first tick.
     /// Returns `true` only if there is room, and `false` only if the observer may refuse (`refuses`). The number
     /// `ticks` includes each `Go`.
-    fn make_room(&mut self, event: &Event, ticks: usize) -> bool
+    fn make_room(&mut self, event: &Event<'_>, ticks: usize) -> bool
         requires count { ticks ≡ length (ticks_of event.now) }
         ensures nothing { Self.heard self.old self.new [] }
         ensures room { OnTrue result (HasRoomForEvent ready Self.room_left event.now self.new) }
@@ -41,7 +41,7 @@ pub trait RunObserver: Observer {
     /// Reports to the observer the answer of an event, and the number of accesses of the event's call or reset. A tick
     /// outside a call has 0 accesses. `frame` is the frame that a socket returned, of at most 1,518 bytes. For other
     /// answers, `frame` has no meaning.
-    fn answer(&mut self, event: &Event, accesses: u64, answer: Answer<()>, frame: &[u8])
+    fn answer(&mut self, event: &Event<'_>, accesses: u64, answer: Answer<()>, frame: &[u8])
         requires room { ready self.old event.now }
         requires fits { length frame.now ≤ longest_frame }
         ensures { (begin : Self) (ticks : List TickTold) → Self.heard begin self.old ticks → AreOfTicks event.now ticks

@@ -2,7 +2,7 @@
 //! which frames a drain returns, and in which order.
 
 use crate::frame_sink::Taken;
-use crate::texts::prepared;
+use crate::texts::{events_of, scenario_in};
 use network_plan::PlanError;
 use std::alloc::Global;
 use std::process::Abort;
@@ -98,8 +98,9 @@ fn drained(rt: &impl Abort, alloc: Global, lan: &mut Lan, host: usize, steps: u6
 /// Returns the network after these lines, or `None` if an allocation fails.
 fn played(rt: &impl Abort, alloc: Global, lines: &[&str]) -> Option<Lan> {
     let text = joined(alloc, lines)?;
-    let (plan, events) = prepared(rt, alloc, text.as_str())?;
-    let made = Lan::new(alloc, &plan);
+    let scenario = scenario_in(rt, alloc, text.as_str())?;
+    let events = events_of(alloc, &scenario)?;
+    let made = Lan::new(alloc, &scenario.plan);
     assert!(rt; matches!(made, Ok(_) | Err(PlanError::Memory)));
     let mut lan = made.ok()?;
     let mut replies = Vec::new(alloc);

@@ -1,6 +1,6 @@
 //! Tests of the log of a wire: the number of the log's entries, and the senders of the frames in it.
 
-use crate::texts::prepared;
+use crate::texts::{events_of, scenario_in};
 use network_plan::Event;
 use std::alloc::Global;
 use std::process::Abort;
@@ -29,7 +29,7 @@ tick deliver:b
 
 /// Plays all events once, and then those of host `a` until it has put `FRAMES` frames. Returns `None` if an allocation
 /// fails.
-fn puts(alloc: Global, lan: &mut Lan, waits: &[Event], put: &[Event]) -> Option<()> {
+fn puts(alloc: Global, lan: &mut Lan, waits: &[Event<'_>], put: &[Event<'_>]) -> Option<()> {
     let mut replies = Vec::new(alloc);
     lan.run(alloc, waits, &mut replies).ok()?;
     for _ in 0..FRAMES {
@@ -54,8 +54,9 @@ fn is_kept(rt: &impl Abort, lan: &Lan, host: usize) {
 #[test]
 fn a_full_log_keeps_what_waits(rt: HostRuntime) -> Result<(), Fail> {
     let alloc = rt.alloc();
-    let (plan, events) = prepared(&rt, alloc, TEXT).expect(&rt, "memory isn't refused");
-    let mut lan = Lan::new(alloc, &plan)?;
+    let scenario = scenario_in(&rt, alloc, TEXT).expect(&rt, "memory isn't refused");
+    let events = events_of(alloc, &scenario).expect(&rt, "memory isn't refused");
+    let mut lan = Lan::new(alloc, &scenario.plan)?;
     assert!(rt; lan.log(0).is_empty() && events.len() >= PUT);
     let (waits, put) = events.split_at(PUT);
     let is_played = puts(alloc, &mut lan, waits, put).is_some();

@@ -1,6 +1,6 @@
 //! A test that a network can be made, and that a run can be continued, after a failed allocation.
 
-use crate::texts::prepared;
+use crate::texts::{events_of, scenario_in};
 use network_plan::{Event, Plan, PlanError, Reply};
 use std::alloc::Global;
 use std::process::Abort;
@@ -51,7 +51,7 @@ fn made(rt: &impl Abort, alloc: Global, plan: &Plan) -> Lan {
 }
 
 /// Runs the events. After a failed allocation, a second run plays the events that weren't done.
-fn run(rt: &impl Abort, alloc: Global, lan: &mut Lan, events: &[Event]) -> Vec<Reply> {
+fn run(rt: &impl Abort, alloc: Global, lan: &mut Lan, events: &[Event<'_>]) -> Vec<Reply> {
     let mut replies = Vec::new(alloc);
     if let Err(stopped) = lan.run(alloc, events, &mut replies) {
         assert!(rt; replies.len() == stopped.done && stopped.done < events.len());
@@ -66,10 +66,13 @@ fn run(rt: &impl Abort, alloc: Global, lan: &mut Lan, events: &[Event]) -> Vec<R
 #[test]
 fn a_refused_allocation_is_memory(rt: HostRuntime) {
     let alloc = rt.alloc();
-    let Some((plan, events)) = prepared(&rt, alloc, TEXT) else {
+    let Some(scenario) = scenario_in(&rt, alloc, TEXT) else {
         return;
     };
-    let mut lan = made(&rt, alloc, &plan);
+    let Some(events) = events_of(alloc, &scenario) else {
+        return;
+    };
+    let mut lan = made(&rt, alloc, &scenario.plan);
     let replies = run(&rt, alloc, &mut lan, &events);
     assert!(rt; replies.len() == COUNTS.len());
     for (reply, (accesses, outcomes)) in replies.iter().zip(COUNTS) {

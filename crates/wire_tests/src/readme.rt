@@ -17,13 +17,11 @@ use wire::{Answer, Event, Lan};
 
 #[test]
 fn the_code_of_the_readme_of_wire(rt: HostRuntime) -> Result<(), Fail> {
-    let frame = [0xFF; 60].to_vec(rt.alloc())?;
     let late = [
         Tick::Step(1, StepKind::RxData),
         Tick::Step(1, StepKind::RxDone),
         Tick::Go,
     ];
-    let ticks = late.to_vec(rt.alloc())?;
     // Hosts 0 and 1 on one wire. Host 1 has a socket for all frames.
     let text = b"host a 02:00:00:00:00:01 w\nhost b 02:00:00:00:00:02 w\nsocket b all\n";
     let plan = Scenario::read(rt.alloc(), text)?.plan;
@@ -32,13 +30,16 @@ fn the_code_of_the_readme_of_wire(rt: HostRuntime) -> Result<(), Fail> {
     let events = [
         Event::Send {
             host: 0,
-            frame,
-            ticks: Vec::new(rt.alloc()),
+            frame: &[0xFF; 60],
+            ticks: &[],
         },
         Event::Tick(Tick::Step(0, StepKind::TxTake)),
         Event::Tick(Tick::Step(0, StepKind::TxPut)),
         Event::Tick(Tick::Deliver(1)),
-        Event::Interrupt { host: 1, ticks },
+        Event::Interrupt {
+            host: 1,
+            ticks: &late,
+        },
     ];
     let mut replies = Vec::new(rt.alloc());
     lan.run(rt.alloc(), &events, &mut replies)?;

@@ -9,11 +9,11 @@ use Rattle.run_record.proofs.record.Record.note_answer.Goals as goal
 pub returns-in-Send : goal.returns-in-Send
 returns-in-Send c =
     let given = answer_with c.args.frame.now c.args.answer.now in
-    let happened = accepted_by_answer c.in-Send.host c.in-Send.frame.items given in
+    let happened = accepted_by_answer c.in-Send.host c.in-Send.frame.now given in
     answer-of c.args.event.now given c.in-Send.is
     (hosts-answer happened c.args.self.now c.as_mut_slice.result.now c.note_sent.new.hosts (search rules) (search (rules, arith))
-    (given-accepted c.args.self.now.number c.in-Send.host c.in-Send.frame.items given)
-    (c.note_sent.ensures c.in-Send.frame.items c.args.frame.now))
+    (given-accepted c.args.self.now.number c.in-Send.host c.in-Send.frame.now given)
+    (c.note_sent.ensures c.in-Send.frame.now c.args.frame.now))
 
 pub returns-in-Reset : goal.returns-in-Reset
 returns-in-Reset c =

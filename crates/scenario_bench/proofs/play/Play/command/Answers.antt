@@ -1,26 +1,52 @@
-use Rattle.std.proofs.Common.{◌∷◌, [], List, arith, map, rules}
+use Rattle.std.proofs.Common.{◌≡◌, ◌∷◌, [], ◌∙◌, ℕ, Global, List, Vec, ap, arith, map, rules, sym}
 use Rattle.std.proofs.lemmas.Result.{IfErr-weaker, on_ok_weaker}
-use Rattle.scenario.specs.SoFar.{Drains, Said, command_of_event, hosts_of, said_of}
+use Rattle.scenario.specs.SoFar.{Drains, Said, Ticks, command_of_event, hosts_of, said_of, said_of_call}
 use Rattle.scenario_bench.specs.EventLists.{event_drawn, events_of, words_drawn}
 use Rattle.scenario_bench.specs.PlayedEvents.{HasPlayed, StopsWithin, trace_frames}
+use Rattle.network_plan.specs.declared.event.Event.{Event}
+use Rattle.scenario.specs.declared.call.Call.{Call}
+use Rattle.scenario.specs.declared.command.Command.{Command}
 use Rattle.scenario.specs.declared.command.Command.TheVariants as commands
+use Rattle.stations.specs.declared.tick.Tick.{Tick}
 use Rattle.scenario_bench.proofs.PlayedEvents.{of_event, of_no_feed, of_same}
 use Rattle.scenario_bench.proofs.play.Play.command.Goals as goal
 
-pub returns-in-Event-clause-ok : goal.returns-in-Event-clause-ok
-returns-in-Event-clause-ok c =
-    on_ok_weaker c.run.result (of_event (λ (said : List Said). HasPlayed said c.args.self.now c.run.new.self)
-    (hosts_of c.args.plans.now) (map trace_frames c.args.traces.now) c.args.command.now c.in-Event.event c.from_ref.result.now
-    c.in-Event.is (search rules)) c.run.ensures.ok
+call-said : (one : Command) (event : Event) (call : Call) (host : ℕ) (list : List Tick) (ticks : Vec Tick Global)
+    → one ≡ commands.Call host call ticks → command_of_event event ≡ said_of_call call host list → list ≡ ticks.items
+    → command_of_event event ≡ said_of one
+call-said one event call host list ticks is said same = said ∙ ap (said_of_call call host) same ∙ sym (ap said_of is)
 
-pub returns-in-Event-clause-err : goal.returns-in-Event-clause-err
-returns-in-Event-clause-err c =
-    IfErr-weaker c.run.result (StopsWithin (map command_of_event c.from_ref.result.now) c.args.self.now c.run.new.self)
+pub returns-in-Call-clause-ok : goal.returns-in-Call-clause-ok
+returns-in-Call-clause-ok c =
+    on_ok_weaker c.run_one.result (of_event (λ (said : List Said). HasPlayed said c.args.self.now c.run_one.new.self)
+    (hosts_of c.args.plans.now) (map trace_frames c.args.traces.now) c.args.command.now c.event.result
+    (call-said c.args.command.now c.event.result c.in-Call.call c.in-Call.host c.as_slice.result.now c.in-Call.ticks c.in-Call.is
+    c.event.ensures c.as_slice.ensures.value)) c.run_one.ensures.ok
+
+pub returns-in-Call-clause-err : goal.returns-in-Call-clause-err
+returns-in-Call-clause-err c =
+    IfErr-weaker c.run_one.result (StopsWithin (command_of_event c.event.result ∷ []) c.args.self.now c.run_one.new.self)
     (StopsWithin (events_of (hosts_of c.args.plans.now) (map trace_frames c.args.traces.now) (said_of c.args.command.now)) c.args.self.now
-    c.run.new.self)
-    (λ error. of_event (λ (said : List Said). StopsWithin said c.args.self.now c.run.new.self error)
-    (hosts_of c.args.plans.now) (map trace_frames c.args.traces.now) c.args.command.now c.in-Event.event c.from_ref.result.now
-    c.in-Event.is (search rules)) c.run.ensures.err
+    c.run_one.new.self)
+    (λ error. of_event (λ (said : List Said). StopsWithin said c.args.self.now c.run_one.new.self error)
+    (hosts_of c.args.plans.now) (map trace_frames c.args.traces.now) c.args.command.now c.event.result
+    (call-said c.args.command.now c.event.result c.in-Call.call c.in-Call.host c.as_slice.result.now c.in-Call.ticks c.in-Call.is
+    c.event.ensures c.as_slice.ensures.value)) c.run_one.ensures.err
+
+pub returns-in-Tick-clause-ok : goal.returns-in-Tick-clause-ok
+returns-in-Tick-clause-ok c =
+    on_ok_weaker c.run_one-in-Tick.result (of_same (λ (said : List Said). HasPlayed said c.args.self.now c.run_one-in-Tick.new.self)
+    (hosts_of c.args.plans.now) (map trace_frames c.args.traces.now) c.args.command.now (commands.Tick c.in-Tick.tick)
+    c.in-Tick.is) c.run_one-in-Tick.ensures.ok
+
+pub returns-in-Tick-clause-err : goal.returns-in-Tick-clause-err
+returns-in-Tick-clause-err c =
+    IfErr-weaker c.run_one-in-Tick.result (StopsWithin (Ticks c.in-Tick.tick ∷ []) c.args.self.now c.run_one-in-Tick.new.self)
+    (StopsWithin (events_of (hosts_of c.args.plans.now) (map trace_frames c.args.traces.now) (said_of c.args.command.now)) c.args.self.now
+    c.run_one-in-Tick.new.self)
+    (λ error. of_same (λ (said : List Said). StopsWithin said c.args.self.now c.run_one-in-Tick.new.self error)
+    (hosts_of c.args.plans.now) (map trace_frames c.args.traces.now) c.args.command.now (commands.Tick c.in-Tick.tick)
+    c.in-Tick.is) c.run_one-in-Tick.ensures.err
 
 pub returns-in-None-clause-ok : goal.returns-in-None-clause-ok
 returns-in-None-clause-ok c = of_no_feed (hosts_of c.args.plans.now) c.args.traces.now c.args.command.now c.in-Feed.host c.in-Feed.trace

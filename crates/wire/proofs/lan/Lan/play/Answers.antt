@@ -1,14 +1,34 @@
-use Rattle.std.proofs.Common.{rules, ℕ, ◌∙◌, ◌≡◌, ◌+◌, ◌<◌, ◌++◌, ◌∷◌, [], List, inl, inr, length, take, slice_index_or, arith, sym, subst}
-use Rattle.std.proofs.lemmas.Grind.{common_steps}
+use Rattle.std.proofs.Common.{ℕ, ◌∙◌, ◌≡◌, ◌⊎◌, ◌+◌, ◌<◌, ◌++◌, ◌∷◌, [], List, inl, inr, length, slice_get, slice_index_or, take}
+use Rattle.std.proofs.Common.{arith, sym, subst}
+use Rattle.std.proofs.lemmas.List.{take_more}
 use Rattle.std.proofs.lemmas.Option.{slice_get-get_or}
 use Rattle.network_plan.specs.declared.event.Event.{Event}
-use Rattle.wire.specs.RunObservers.{EventTold}
-use Rattle.wire.specs.Runs.{EventRuns, IsResetOf, RunTold}
-use Rattle.network_plan.specs.EventCalls.{in_event}
+use Rattle.wire.specs.Runs.{IsResetOf, RunTold, StopsAt}
+use Rattle.network_plan.specs.EventCalls.{EventKind, in_event}
 use Rattle.host_calls.specs.Networks.{NetworkState}
 use Rattle.wire.proofs.Running.{told-asked, told-more, told-none}
 use Rattle.wire.proofs.Telling.{where-err, where-ok}
 use Rattle.wire.proofs.lan.Lan.play.Goals as goal
+
+-- The event after the first `done` events is the next in the loop.
+one-more : (events : List Event) (done : ℕ) (d : Event) (Holds : List Event → Type 0) → done < length events
+    → Holds (take done events ++ slice_index_or events done d ∷ []) → Holds (take (done + 1) events)
+one-more events done d Holds below = subst Holds (sym (take_more events done d below))
+
+reset-of : (kind : EventKind) (hosts now : ℕ) → hosts ≡ now → IsResetOf hosts kind → IsResetOf now kind
+reset-of kind hosts now = subst (λ (n : ℕ). IsResetOf n kind)
+
+stops-at : {O : Type 0} {refuses : O → Event → Type 0} {hosts : ℕ} {Told : O → Type 0} (events : List Event) (done : ℕ) (d : Event)
+    (asked : O) → done < length events → Told asked
+    → refuses asked (slice_index_or events done d) ⊎ IsResetOf hosts (in_event (slice_index_or events done d))
+    → StopsAt refuses hosts (slice_get events done) Told
+stops-at events done d asked below told refused = record {
+  event = slice_index_or events done d;
+  is = slice_get-get_or events done d below;
+  asked = asked;
+  told = told;
+  refused = refused;
+}
 
 pub loop-done-init : goal.loop-done-init
 loop-done-init g c = told-none g.met.O.RunObserver.composes_runs g.met.O.Observer.composes c.args.self.now c.args.observer.now
@@ -17,18 +37,13 @@ pub loop-done-preserved : goal.loop-done-preserved
 loop-done-preserved g c =
     let runs = g.met.O.RunObserver.composes_runs in
     let before = take c.loop-done.done c.args.events.now in
-    let event = slice_index_or c.args.events.now c.loop-done.done c.index-events-done.result in
-    let below : c.loop-done.done < length c.args.events.now = omega arith in
-    let more : take (c.loop-done.done + 1) c.args.events.now ≡ before ++ event ∷ [] = grind (arith, common_steps) in
     let asked = told-asked runs before c.args.self.now c.loop-done.self c.args.observer.now c.loop-done.observer c.make_room.new.self
     c.loop-done.invariant c.make_room.ensures.nothing in
-    let told = told-more runs before event c.args.self.now c.loop-done.self c.event.new.self c.args.observer.now c.make_room.new.self
-    c.event.new.observer asked
-    (subst (λ (e : Event). EventTold g.O.RunObserver.ran e c.make_room.new.self c.event.new.observer
-    (λ reply. EventRuns c.loop-done.self e reply c.event.new.self)) c.index-events-done.is
-    (where-ok c.event.result _ c.event.ensures.ok (sym c.is_err.ensures.value ∙ c.if-is_err.false))) in
-    subst (λ (events : List Event). RunTold g.O.RunObserver.ran events c.args.self.now c.event.new.self c.args.observer.now
-    c.event.new.observer) (sym more) told
+    one-more c.args.events.now c.loop-done.done _
+    (λ (events : List Event). RunTold g.O.RunObserver.ran events c.args.self.now c.event.new.self c.args.observer.now c.event.new.observer)
+    c.loop-done-test.true
+    (told-more runs before _ c.args.self.now c.loop-done.self c.event.new.self c.args.observer.now c.make_room.new.self
+    c.event.new.observer asked (where-ok c.event.result _ c.event.ensures.ok (sym c.is_err.ensures.value ∙ c.if-is_err.false)))
 
 pub returns-then-not-make_room-clause-stopped : goal.returns-then-not-make_room-clause-stopped
 returns-then-not-make_room-clause-stopped g c = (
@@ -38,16 +53,8 @@ returns-then-not-make_room-clause-stopped g c = (
 )
 
 pub returns-then-not-make_room-clause-refused : goal.returns-then-not-make_room-clause-refused
-returns-then-not-make_room-clause-refused g c =
-    let event = slice_index_or c.args.events.now c.loop-done.done c.index-events-done.result in
-    let refused : g.O.RunObserver.refuses c.loop-done.observer c.index-events-done.result = search rules in
-    record {
-      event = event;
-      is = slice_get-get_or c.args.events.now c.loop-done.done c.index-events-done.result (omega arith);
-      asked = c.loop-done.observer;
-      told = c.loop-done.invariant;
-      refused = inl (subst (λ (e : Event). g.O.RunObserver.refuses c.loop-done.observer e) c.index-events-done.is refused);
-    }
+returns-then-not-make_room-clause-refused g c = stops-at c.args.events.now c.loop-done.done _ c.loop-done.observer c.loop-done-test.true
+    c.loop-done.invariant (inl c.if-not-make_room.ensures.refused)
 
 pub returns-then-is_err-clause-stopped : goal.returns-then-is_err-clause-stopped
 returns-then-is_err-clause-stopped g c =
@@ -64,15 +71,8 @@ returns-then-is_err-clause-stopped g c =
 
 pub returns-then-is_err-clause-refused : goal.returns-then-is_err-clause-refused
 returns-then-is_err-clause-refused g c =
-    let event = slice_index_or c.args.events.now c.loop-done.done c.index-events-done.result in
     let kept = where-err c.event.result _ c.event.ensures.refused (sym c.is_err.ensures.value ∙ c.if-is_err.true) in
-    record {
-      event = event;
-      is = slice_get-get_or c.args.events.now c.loop-done.done c.index-events-done.result (omega arith);
-      asked = c.loop-done.observer;
-      told =
-          subst (λ (network : NetworkState). RunTold g.O.RunObserver.ran (take c.loop-done.done c.args.events.now) c.args.self.now network
-          c.args.observer.now c.loop-done.observer) (sym kept.1) c.loop-done.invariant;
-      refused = inr (subst (λ (e : Event). IsResetOf (length c.args.self.now.hosts) (in_event e)) c.index-events-done.is
-          (subst (λ (n : ℕ). IsResetOf n (in_event c.index-events-done.result)) c.loop-done.invariant.runs.hosts kept.0));
-    }
+    stops-at c.args.events.now c.loop-done.done _ c.loop-done.observer c.loop-done-test.true
+    (subst (λ (network : NetworkState). RunTold g.O.RunObserver.ran (take c.loop-done.done c.args.events.now) c.args.self.now network
+    c.args.observer.now c.loop-done.observer) (sym kept.1) c.loop-done.invariant)
+    (inr (reset-of _ _ _ c.loop-done.invariant.runs.hosts kept.0))
