@@ -8,8 +8,6 @@ use Rattle.drive.specs.declared.drive_error.DriveError.{DriveError}
 use Rattle.drive.specs.declared.drive_error.DriveError.TheVariants as drive
 use Rattle.network_plan.specs.declared.plan_error.PlanError.{PlanError}
 use Rattle.network_plan.specs.declared.plan_error.PlanError.TheVariants as plan
-use Rattle.pcap_bench.specs.declared.pass_error.PassError.{PassError}
-use Rattle.pcap_bench.specs.declared.pass_error.PassError.TheVariants as pass
 use Rattle.pcap_trace.specs.declared.fault.ReadError.{ReadError}
 use Rattle.pcap_trace.specs.declared.fault.ReadError.TheVariants as input
 use Rattle.program_files.specs.declared.file_error.FileError.{FileError}
@@ -72,10 +70,6 @@ status_of_file (files.Schedule error) = status_of_schedule error
 status_of_file files.OtherOptions = 1
 status_of_file files.Write = 3
 status_of_file files.Memory = 4
-
-abbrev pub status_of_pass : PassError → ℕ
-status_of_pass pass.Memory = 4
-status_of_pass pass.Write = 3
 
 abbrev pub status_of_refusal : Refusal → ℕ
 status_of_refusal (refusals.Line line fault) = 1

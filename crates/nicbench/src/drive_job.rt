@@ -13,6 +13,23 @@ use std::io::{self, BufReader};
 /// The limit of turns in a row without a frame ([`DriveLimits`]), if `--idle` isn't given.
 const IDLE: u64 = 1_000;
 
+/// Returns the rings and buffers of the driver, from the job.
+fn rings_of(job: &DriveJob<'_>) -> DriveRings {
+    DriveRings {
+        rx: job.rx,
+        tx: job.tx,
+        buffers: job.buffers,
+    }
+}
+
+/// Returns the limits of the drive, from the job.
+fn limits_of(job: &DriveJob<'_>) -> DriveLimits {
+    DriveLimits {
+        expect: job.expect,
+        idle: job.idle.unwrap_or(IDLE),
+    }
+}
+
 /// Sends frames to the adapter, and writes the received frames to `sink`. Writes requests to standard output, and reads
 /// their answers from standard input.
 fn drive_adapter<S: Sink>(
@@ -27,16 +44,14 @@ fn drive_adapter<S: Sink>(
         return Err(Fault::from(AllocError));
     };
     let mut bus = QtestBus::new(rt.alloc(), input, io::writer(rt), job.registers, job.memory);
-    let rings = DriveRings {
-        rx: job.rx,
-        tx: job.tx,
-        buffers: job.buffers,
-    };
-    let limits = DriveLimits {
-        expect: job.expect,
-        idle: job.idle.unwrap_or(IDLE),
-    };
-    match drive(rt.alloc(), &mut bus, frames, &rings, &limits, sink) {
+    match drive(
+        rt.alloc(),
+        &mut bus,
+        frames,
+        &rings_of(job),
+        &limits_of(job),
+        sink,
+    ) {
         Ok(counts) => Ok(counts),
         Err(error) => Err(Fault::from(error)),
     }
@@ -69,13 +84,16 @@ fn report_counts(
     }
 }
 
+/// Sends these frames, writes OUT, and reports the counts.
+fn drive_frames(rt: &HostRuntime, job: &DriveJob<'_>, frames: &Frames) -> Result<(), Fault> {
+    let mut sink = create(rt, job.receive)?;
+    let counts = drive_adapter(rt, job, frames, &mut sink)?;
+    report_counts(rt, job, frames.len() as u64, &counts)
+}
+
 /// Runs `drive`: sends the frames of IN, writes OUT, and reports the counts. IN isn't `-`, because the adapter's
 /// answers are read from standard input.
 pub(crate) fn run_drive(rt: &HostRuntime, job: &DriveJob<'_>) -> Result<(), Fault> {
     let trace = read_file_trace(rt, job.send)?;
-    let mut sink = create(rt, job.receive)?;
-    match drive_adapter(rt, job, &trace.frames, &mut sink) {
-        Ok(counts) => report_counts(rt, job, trace.frames.len() as u64, &counts),
-        Err(fault) => Err(fault),
-    }
+    drive_frames(rt, job, &trace.frames)
 }

@@ -2,11 +2,11 @@
 ghost use Rattle.std.specs.Prelude.{◌≡◌, IfOk, IfSome};
 
 use crate::fault::Fault;
-use crate::run::{STANDARD_OUTPUT, names_of_wires};
+use crate::run::names_of_wires;
 use command_line::RunJob;
 use network_plan::HostPlan;
 use pcap_bench::Sink;
-use program_files::{FileSink, create, is_in_folder, is_same_file};
+use program_files::{FileSink, STANDARD_STREAM, create, is_in_folder, is_same_file};
 use scenario::Scenario;
 use scenario_bench::socket_files;
 use std::alloc::AllocError;
@@ -81,7 +81,7 @@ pub(crate) fn create_events_sink(
     ensures { IfOk result (λ file. IfSome file (λ sink. ⟦<FileSink<File> as Sink>⟧.failures sink ≡ 0)) }
 {
     match job.events {
-        Some(path) if path != STANDARD_OUTPUT => Ok(Some(create_unused(rt, path, job, scenario)?)),
+        Some(path) if path != STANDARD_STREAM => Ok(Some(create_unused(rt, path, job, scenario)?)),
         _ => Ok(None),
     }
 }

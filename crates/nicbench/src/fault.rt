@@ -10,7 +10,7 @@ use adapter_server::ServeError;
 use bring_up::InitError;
 use drive::{BusFault, DriveError};
 use network_plan::PlanError;
-use pcap_bench::{PassError, ReadError, WriteError};
+use pcap_bench::{ReadError, WriteError};
 use program_files::FileError;
 use scenario::{Fault as LineFault, Refusal};
 use scenario_bench::BenchError;
@@ -76,18 +76,26 @@ fn line_code(fault: LineFault) -> Code
     }
 }
 
+/// The text that follows the code on standard error. It is empty for a line: the number is printed before the code.
+impl Display for Detail {
+    fn fmt<W: fmt::Write>(&self, f: &mut fmt::Formatter<W>) -> fmt::Result {
+        match self {
+            Detail::Nothing | Detail::Line(_) | Detail::Input(_) => Ok(()),
+            Detail::Reason(reason) => write!(f, ": {reason}"),
+            Detail::Path(path) => write!(f, ": {path}"),
+            Detail::Schedule(error) => write!(f, " {error}"),
+            Detail::Options => f.write_str(" options"),
+        }
+    }
+}
+
 /// The text that follows `nicbench: ` on standard error.
 impl Display for Fault {
     fn fmt<W: fmt::Write>(&self, f: &mut fmt::Formatter<W>) -> fmt::Result {
-        let code = self.code;
-        match &self.detail {
-            Detail::Nothing | Detail::Input(_) => code.fmt(f),
-            Detail::Line(line) => write!(f, "line {line}: {code}"),
-            Detail::Reason(reason) => write!(f, "{code}: {reason}"),
-            Detail::Path(path) => write!(f, "{code}: {path}"),
-            Detail::Schedule(error) => write!(f, "{code} {error}"),
-            Detail::Options => write!(f, "{code} options"),
+        if let Detail::Line(line) = &self.detail {
+            write!(f, "line {line}: ")?;
         }
+        write!(f, "{}{}", self.code, self.detail)
     }
 }
 
@@ -176,17 +184,6 @@ impl From<WriteError> for Fault {
 
     fn from(_error: WriteError) -> Fault {
         Fault::of(E67)
-    }
-}
-
-impl From<PassError> for Fault {
-    ghost from_gives = { λ e. spec.HasStatusAndDetail (spec.status_of_pass e) spec.no_detail };
-
-    fn from(error: PassError) -> Fault {
-        match error {
-            PassError::Memory => Fault::of(E57),
-            PassError::Write => Fault::of(E67),
-        }
     }
 }
 

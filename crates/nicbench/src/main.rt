@@ -7,20 +7,16 @@ mod codes;
 mod drive_job;
 mod events_file;
 mod fault;
-mod pass;
 mod run;
 mod serve;
-mod show;
-mod unit;
 
 use crate::codes::E57;
 use crate::drive_job::run_drive;
 use crate::fault::Fault;
-use crate::pass::run_pass;
 use crate::run::run_scenario;
 use crate::serve::run_serve;
-use crate::show::run_show;
 use command_line::{Job, LineError, line};
+use program_files::{FileError, run_pass, run_show};
 use std::env;
 use std::io::ErrorKind;
 use std::process::ExitCode;
@@ -66,14 +62,19 @@ fn report(rt: &HostRuntime, job: &Job<'_>, fault: &Fault) -> ExitCode {
     ExitCode::from(fault.code.status)
 }
 
+/// Returns the outcome of a job of `program_files`, with the fault of its error.
+fn of_files(outcome: Result<(), FileError>) -> Result<(), Fault> {
+    Ok(outcome?)
+}
+
 /// Does this job, which these words ask for, and reports its fault, if any. Returns the exit status.
 fn obey(rt: &HostRuntime, words: &[String], job: &Job<'_>) -> ExitCode
     requires { HasBounds job.now }
 {
     let outcome = match job {
-        Job::Pass(job) => run_pass(rt, job),
+        Job::Pass(job) => of_files(run_pass(rt, job)),
         Job::Run(job) => run_scenario(rt, job),
-        Job::Show(job) => run_show(rt, job),
+        Job::Show(job) => of_files(run_show(rt, job)),
         Job::Serve(job) => run_serve(rt, words, job),
         Job::Drive(job) => run_drive(rt, job),
     };

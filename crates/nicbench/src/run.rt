@@ -4,21 +4,18 @@ ghost use Rattle.scenario_bench.specs.FileNames.{sockets_in, wires_in};
 
 use crate::events_file::create_events_sink;
 use crate::fault::Fault;
-use crate::unit::unit_of;
 use command_line::RunJob;
 use network_plan::HostPlan;
 use pcap_bench::{Sink, Trace, WriteError, WriterSink};
 use program_files::{
-    FileSink, StandardError, create_all, find_folder, read_bytes, read_trace, report_play,
+    FileSink, STANDARD_STREAM, StandardError, create_all, find_folder, read_bytes, read_trace,
+    report_play, unit_of,
 };
 use scenario::Scenario;
 use scenario_bench::{Refusals, Summary, bench, print_summary, socket_files, wire_files};
 use std::alloc::{AllocError, Global};
 use std::fs::File;
 use std::io;
-
-/// The path that means standard output.
-pub(crate) const STANDARD_OUTPUT: &str = "-";
 
 /// Reads the scenario at this path.
 fn read_scenario(rt: &HostRuntime, path: &str) -> Result<Scenario, Fault> {
@@ -198,8 +195,25 @@ fn print_with_file<W: Sink>(
     Ok(())
 }
 
-/// Plays a scenario with these traces. Writes the lines of events to standard output or to a file, if the job asks for
-/// them. Writes the lines of hosts to standard output, or to standard error if the lines of events are there.
+/// Writes the lines of events to standard output or to this file, if the job asks for them. Writes the lines of hosts
+/// to standard output, or to standard error if the lines of events are there.
+fn print<W: Sink>(
+    rt: &HostRuntime,
+    job: &RunJob<'_>,
+    summary: &Summary,
+    file: &mut Option<W>,
+) -> Result<(), Fault>
+    requires { IfSome file.old (λ sink. W.failures sink < u64.MAX) }
+{
+    if job.events == Some(STANDARD_STREAM) {
+        print_to_standard_output(rt, summary)
+    } else {
+        print_with_file(rt, summary, file)
+    }
+}
+
+/// Opens the file for the lines of events, if the job names one, plays a scenario with these traces, and prints the
+/// lines of events and of hosts.
 fn play_scenario(
     rt: &HostRuntime,
     job: &RunJob<'_>,
@@ -210,11 +224,7 @@ fn play_scenario(
 {
     let mut file = create_events_sink(rt, job, scenario)?;
     let summary = play(rt, job, scenario, traces)?;
-    if job.events == Some(STANDARD_OUTPUT) {
-        print_to_standard_output(rt, &summary)
-    } else {
-        print_with_file(rt, &summary, &mut file)
-    }
+    print(rt, job, &summary, &mut file)
 }
 
 /// Reads SCENARIO and the traces that it feeds, plays the scenario, and writes its files. Prints a line for each host,

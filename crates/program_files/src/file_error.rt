@@ -1,8 +1,10 @@
 //! Why an input or an output can't be used.
 ghost use Rattle.std.specs.Prelude.{◌≡◌};
+ghost use Rattle.pcap_bench.specs.declared.pass_error.PassError.TheVariants as passing;
 ghost use Rattle.program_files.specs.declared.file_error.FileError.TheVariants as errors;
 
-use pcap_trace::ReadError;
+use pcap_bench::PassError;
+use pcap_trace::{ReadError, WriteError};
 use std::alloc::{AllocError, AllocFailed, Global};
 use step_schedules::ScheduleError;
 
@@ -22,7 +24,7 @@ pub enum FileError {
     Schedule(ScheduleError),
     /// The schedule is for an adapter with other options.
     OtherOptions,
-    /// The recorded schedule can't be written.
+    /// An output can't be written.
     Write,
     /// Memory was refused, but not while a trace was read.
     Memory,
@@ -54,6 +56,26 @@ impl From<ScheduleError> for FileError {
 
     fn from(error: ScheduleError) -> FileError {
         FileError::Schedule(error)
+    }
+}
+
+impl From<WriteError> for FileError {
+    ghost from_gives = { λ _ e. e ≡ errors.Write };
+
+    fn from(_error: WriteError) -> FileError {
+        FileError::Write
+    }
+}
+
+impl From<PassError> for FileError {
+    ghost from_gives = { λ error e.
+        (error ≡ passing.Memory → e ≡ errors.Memory) × (error ≡ passing.Write → e ≡ errors.Write) };
+
+    fn from(error: PassError) -> FileError {
+        match error {
+            PassError::Memory => FileError::Memory,
+            PassError::Write => FileError::Write,
+        }
     }
 }
 

@@ -11,8 +11,8 @@ use std::io::{self, ErrorKind, Input, Read};
 use std::os::unix::fs::{FileTypeExt, MetadataExt};
 use std::rt::Files;
 
-/// The path that means standard input.
-const STANDARD_INPUT: &str = "-";
+/// The path that means standard input, as an input, and standard output, as an output.
+pub const STANDARD_STREAM: &str = "-";
 
 /// The path whose metadata are those of standard input.
 const STANDARD_INPUT_FILE: &str = "/dev/stdin";
@@ -104,7 +104,7 @@ fn open_input<R: Files + AllocGlobal>(rt: &R, path: &str) -> Result<Opened<R::Fi
 
 /// Opens an input. Standard input is read to its end.
 fn open<R: Files + Input + AllocGlobal>(rt: &R, path: &str) -> Result<Opened<R::File>, FileError> {
-    if path == STANDARD_INPUT {
+    if path == STANDARD_STREAM {
         Ok(Opened::Piped(read_pipe(rt.alloc(), path, rt.reader())?))
     } else {
         open_input(rt, path)
@@ -162,7 +162,7 @@ pub fn read_front<R: Files + Input + AllocGlobal>(
 
 /// Refuses the path `-`, for a job that reads something else from standard input.
 fn refuse_standard_input<R: AllocGlobal>(rt: &R, path: &str) -> Result<(), FileError> {
-    if path == STANDARD_INPUT {
+    if path == STANDARD_STREAM {
         return Err(FileError::open(rt.alloc(), path));
     }
     Ok(())
@@ -249,7 +249,7 @@ pub fn find_folder<R: Files + AllocGlobal>(rt: &R, path: &str) -> Result<(), Fil
 
 /// Returns the metadata of the file at a path, or of standard input if the path is `-`. Links are followed.
 fn metadata_of<R: Files>(rt: &R, path: &str) -> io::Result<Metadata> {
-    if path == STANDARD_INPUT {
+    if path == STANDARD_STREAM {
         return fs::metadata(rt, STANDARD_INPUT_FILE);
     }
     fs::metadata(rt, path)

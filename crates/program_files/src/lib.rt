@@ -1,5 +1,5 @@
-//! The inputs and outputs of the program: files, pipes and standard input, among them the files of
-//! schedules. The crate also writes to standard error, and reports the progress of long jobs there.
+//! The inputs and outputs of the program: files, pipes and standard streams, among them the files of schedules. The
+//! crate does the jobs of `pass` and `show`, and reports the progress of long jobs on standard error.
 #![tactic(auto)]
 
 mod file_error;
@@ -10,12 +10,13 @@ mod schedule_adapters;
 mod schedule_files;
 mod schedule_words;
 mod standard_error;
+mod trace_jobs;
 mod whole_file;
 
 pub use file_error::FileError;
 pub use files::{
-    FileSink, create, create_all, create_file, find_folder, is_in_folder, is_same_file, read_bytes,
-    read_file_bytes, read_file_trace, read_front, read_trace,
+    FileSink, STANDARD_STREAM, create, create_all, create_file, find_folder, is_in_folder,
+    is_same_file, read_bytes, read_file_bytes, read_file_trace, read_front, read_trace,
 };
 pub use late_file::LateFile;
 pub use progress::{Watched, report_play};
@@ -23,4 +24,5 @@ pub use schedule_adapters::is_for;
 pub use schedule_files::{player_of, record_of, store};
 pub use schedule_words::adapter_options;
 pub use standard_error::StandardError;
+pub use trace_jobs::{run_pass, run_show, unit_of};
 pub use whole_file::{WholeFile, create_whole};

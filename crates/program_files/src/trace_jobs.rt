@@ -1,15 +1,21 @@
-//! The command `pass`.
+//! The jobs of `pass` and `show`, from their inputs to their outputs.
 ghost use Rattle.std.specs.Prelude.{◌<◌};
 ghost use Rattle.pcap_bench.specs.Options.{HasVlanNumber};
 
-use crate::fault::Fault;
-use crate::run::STANDARD_OUTPUT;
-use crate::unit::unit_of;
-use command_line::PassJob;
-use pcap_bench::{PassCounts, Sink, Trace, WriterSink, pass, print_pass};
-use program_files::{StandardError, WholeFile, create_whole, read_trace};
+use crate::file_error::FileError;
+use crate::files::{STANDARD_STREAM, read_trace};
+use crate::standard_error::StandardError;
+use crate::whole_file::{WholeFile, create_whole};
+use command_line::{PassJob, ShowJob};
+use pcap_bench::{PassCounts, Sink, Trace, Unit, WriterSink, pass, print_pass, show};
 use std::fs::File;
 use std::io;
+
+/// Returns the unit of the times in written traces: nanoseconds if `nanos` is true (`--nanos`), and otherwise
+/// microseconds.
+pub fn unit_of(nanos: bool) -> Unit {
+    if nanos { Unit::Nanos } else { Unit::Micros }
+}
 
 /// Writes to a sink the frames of a trace that pass the job's filter. Returns the counts.
 fn pass_trace<S: Sink>(
@@ -17,14 +23,14 @@ fn pass_trace<S: Sink>(
     job: &PassJob<'_>,
     trace: &Trace,
     sink: &mut S,
-) -> Result<PassCounts, Fault>
+) -> Result<PassCounts, FileError>
     requires number { HasVlanNumber job.now.filter }
     requires countable { S.failures sink.old < u64.MAX }
 {
     let unit = unit_of(job.nanos);
     match pass(rt.alloc(), trace, &job.filter, unit, sink) {
         Ok(counts) => Ok(counts),
-        Err(error) => Err(Fault::from(error)),
+        Err(error) => Err(FileError::from(error)),
     }
 }
 
@@ -35,7 +41,7 @@ fn finish_pass(
     trace: &Trace,
     counts: &PassCounts,
     file: WholeFile<File>,
-) -> Result<(), Fault> {
+) -> Result<(), FileError> {
     file.finish(rt, path)?;
     print_pass(trace, counts, &mut WriterSink::new(io::writer(rt)))?;
     Ok(())
@@ -43,22 +49,26 @@ fn finish_pass(
 
 /// Writes to a file the frames of a trace that pass, and to standard output the line of counts. If not all of these
 /// frames were written, abandons the file.
-fn pass_to_file(rt: &HostRuntime, job: &PassJob<'_>, trace: &Trace) -> Result<(), Fault>
+fn pass_to_file(rt: &HostRuntime, job: &PassJob<'_>, trace: &Trace) -> Result<(), FileError>
     requires { HasVlanNumber job.now.filter }
 {
     let mut file = create_whole(rt, job.output)?;
     match pass_trace(rt, job, trace, &mut file.sink) {
         Ok(counts) => finish_pass(rt, job.output, trace, &counts, file),
-        Err(fault) => {
+        Err(error) => {
             file.abandon(rt);
-            Err(fault)
+            Err(error)
         }
     }
 }
 
 /// Writes to standard output the frames of a trace that pass, and to standard error the line of counts. A failed write
 /// to standard error isn't an error.
-fn pass_to_standard_output(rt: &HostRuntime, job: &PassJob<'_>, trace: &Trace) -> Result<(), Fault>
+fn pass_to_standard_output(
+    rt: &HostRuntime,
+    job: &PassJob<'_>,
+    trace: &Trace,
+) -> Result<(), FileError>
     requires { HasVlanNumber job.now.filter }
 {
     let counts = pass_trace(rt, job, trace, &mut WriterSink::new(io::writer(rt)))?;
@@ -66,13 +76,30 @@ fn pass_to_standard_output(rt: &HostRuntime, job: &PassJob<'_>, trace: &Trace) -
     Ok(())
 }
 
-/// Reads IN, and writes to OUT the frames that pass.
-pub(crate) fn run_pass(rt: &HostRuntime, job: &PassJob<'_>) -> Result<(), Fault>
+/// Does the job of `pass`: reads IN, and writes to OUT the frames that pass. Writes the line of counts to standard
+/// output, or to standard error if OUT is standard output.
+///
+/// # Errors
+///
+/// The first action that fails determines the error. IN is opened and read before OUT is opened, so both may be the
+/// same file. If not all frames that pass were written, an existing file OUT keeps its bytes ([`WholeFile`]).
+pub fn run_pass(rt: &HostRuntime, job: &PassJob<'_>) -> Result<(), FileError>
     requires { HasVlanNumber job.now.filter }
 {
     let trace = read_trace(rt, job.input)?;
-    if job.output == STANDARD_OUTPUT {
+    if job.output == STANDARD_STREAM {
         return pass_to_standard_output(rt, job, &trace);
     }
     pass_to_file(rt, job, &trace)
+}
+
+/// Does the job of `show`: writes a line for each frame of the trace to standard output.
+///
+/// # Errors
+///
+/// The trace can't be read, or standard output can't be written.
+pub fn run_show(rt: &HostRuntime, job: &ShowJob<'_>) -> Result<(), FileError> {
+    let trace = read_trace(rt, job.trace)?;
+    show(&trace, &mut WriterSink::new(io::writer(rt)))?;
+    Ok(())
 }
