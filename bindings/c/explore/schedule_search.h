@@ -43,7 +43,8 @@ struct schedule_search {
 };
 
 /* What the explorer does at a place. GOES: it takes the newest choice of the path. PASSES: all schedules that begin
- * with the path pass. FULL: the path has no room for another choice. */
+ * with the path pass, if their deviations cost at most `depth` in total. FULL: the path has no room for another
+ * choice. */
 enum { SCHEDULE_GOES, SCHEDULE_PASSES, SCHEDULE_FULL };
 /* What the explorer does after a step back. ANOTHER: the newest choice of the path has changed, and the next run takes
  * it. REMOVED: the newest choice was removed, and all schedules that begin with the shorter path were tried. ENDED: all

@@ -1,5 +1,5 @@
 -- The names of targets. Registers have the names of chapter 13 "Register Descriptions"; the rest is our choice.
-use Rattle.std.specs.Prelude.{◌==◌, ◌++◌, ℕ, List, [], Option, Some, None, codes, drop, false, if◌then◌else◌}
+use Rattle.std.specs.Prelude.{◌==◌, ◌++◌, ℕ, [], Option, Some, None, codes, drop, false, if◌then◌else◌}
 use Rattle.std.specs.Fmt.{decimal, digits}
 use Rattle.adapter.specs.Table.{register_at}
 use Rattle.text.specs.Words.{Text}

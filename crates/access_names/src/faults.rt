@@ -115,31 +115,27 @@ fn descriptor_at_head(machine: &Machine, ring: Ring) -> Option<[u8; TX_DESC_BYTE
     ensures { result ≡ (if is_inside machine.now.world.memory (address_of ring ring.head) 16
         then Some (bytes_at machine.now.world.memory (address_of ring ring.head) 16) else None) }
 {
-    let size = machine.size();
-    let address = ring.descriptor(ring.head)?;
-    if size.saturating_sub(address) < 16 {
-        return None;
-    }
+    let address = ring.descriptor(ring.head, machine.size())?;
     let mut bytes = [0; TX_DESC_BYTES];
     machine.load(address, &mut bytes);
     Some(bytes)
 }
 
-/// Whether DEXT is set.
+/// Returns whether DEXT is set.
 fn is_extended(command: TxCommand) -> bool
     ensures { result ≡ is_set (command_bits command) tx_dext }
 {
     command.contains(TxCommand::DEXT)
 }
 
-/// Whether EOP is set.
+/// Returns whether EOP is set.
 fn ends_packet(command: TxCommand) -> bool
     ensures { result ≡ is_set (command_bits command) tx_eop }
 {
     command.contains(TxCommand::EOP)
 }
 
-/// Whether RCTL.BSEX is set.
+/// Returns whether RCTL.BSEX is set.
 fn extends_buffer_size(control: Rctl) -> bool
     ensures { result ≡ is_set control.0 rctl_bsex }
 {

@@ -1,8 +1,8 @@
 ghost use Rattle.access_names.specs.Reasons.{ReasonsHold, ReasonsStay};
 
-/// If the outcome of a step is a fault, [`fault_of`](crate::fault_of) returns a fault before the step, and the reason
-/// of this fault applies then. After a step with the outcome `Fault`, `fault_of` returns the same result as before the
-/// step.
+/// Suppose that the outcome of a step is a fault. Then [`fault_of`](crate::fault_of), called before the step, returns a
+/// fault whose reason applies at that time. Called after the step, it returns the same. In the definitions,
+/// `fault_if_any` is the result of `fault_of`.
 ///
 /// This function does nothing: its contract is the law.
 pub fn reasons_of_faults_hold()

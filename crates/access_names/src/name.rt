@@ -3,7 +3,7 @@
 ghost use Rattle.std.specs.Prelude.{◌≡◌, ◌+◌, ◌++◌, ◌≤◌, ◌<◌, [], None, false, length};
 ghost use Rattle.std.specs.Fmt.{decimal, digit_glyph, digits};
 ghost use Rattle.adapter.specs.Table.{register_at};
-ghost use Rattle.access_names.specs.Names.{bracketed, byte_text, hexadecimal, index_text, manual_name, name_bytes};
+ghost use Rattle.access_names.specs.Names.{bracketed, byte_text, hexadecimal, name_bytes};
 ghost use Rattle.access_names.specs.Names.{register_text, ring_text, target_text};
 
 use crate::Engine;

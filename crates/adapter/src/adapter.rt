@@ -1,6 +1,6 @@
 // The adapter: its registers, its EEPROM and PHY, and its engines.
 
-ghost use Rattle.std.specs.Prelude.{◌≡◌, ◌↔◌, ◌≤◌, IsTrue, IfOk, IfSome, fold, length};
+ghost use Rattle.std.specs.Prelude.{◌≡◌, ◌↔◌, IsTrue, IfOk, fold, length};
 ghost use Rattle.registers.specs.Bits.{Meet};
 ghost use Rattle.adapter.specs.Registers.{is_reset};
 ghost use Rattle.adapter.specs.DataOutcomes.{causes_of_tick, outcome_of_tick};

@@ -1,12 +1,8 @@
 // The frames that a host and its adapter hold, and the frames still to be sent.
 
-ghost use Rattle.std.specs.Prelude.{◌≡◌, ◌≤◌, ◌<◌, ◌+◌, ◌++◌, ◌∷◌, [], IfSome, IsSome, length, map, true, vec_capacity};
-ghost use Rattle.std.specs.Option.{ForSome};
-ghost use Rattle.descriptors.specs.Frames.{IsLegal};
-ghost use Rattle.adapter.specs.HostFrames.{finished_pieces, frames_held, frames_to_send, pieces_in_slots};
-ghost use Rattle.rx_engine.specs.JoinedPieces.{AreShort};
+ghost use Rattle.std.specs.Prelude.{◌≡◌, ◌≤◌, ◌<◌, ◌+◌, ◌++◌, ◌∷◌, [], length, map, true, vec_capacity};
+ghost use Rattle.adapter.specs.HostFrames.{frames_held, frames_to_send, pieces_in_slots};
 ghost use Rattle.adapter.specs.Pending.{CanReadHeld, CanReadSending};
-ghost use Rattle.adapter.specs.World.{World};
 ghost use Rattle.rx_engine.specs.Pieces.{frames_of};
 
 use crate::Adapter;

@@ -103,13 +103,13 @@ fn outcome_of(answer: Data) -> Outcome<()>
     }
 }
 
-/// Returns the causes that a data step with this answer of the engine records: RXDMT0 if a piece was written, and
-/// exactly half of the ring's descriptors are now offered.
+/// Returns the causes that a data step with this answer records: RXDMT0 if the step moved a piece and exactly half of
+/// the ring's descriptors are now offered; otherwise no cause.
 fn causes_of_answer(answer: Data) -> Cause
     ensures { result.0 ≡ causes_of_answer answer }
 {
     match answer {
-        Data::Part { low: true } | Data::Moved { low: true } => Cause::RXDMT0,
+        Data::Part { half_offered: true } | Data::Moved { half_offered: true } => Cause::RXDMT0,
         _ => Cause::empty(),
     }
 }

@@ -4,7 +4,6 @@ use Rattle.std.specs.List.{All}
 use Rattle.std.proofs.lemmas.List.Elements.{All-head, All-tail}
 use Rattle.adapter.specs.World.{World}
 use Rattle.adapter_plants.specs.OneTrail.{AreSameRequests, courses_one, no_accesses, trail_end}
-use Rattle.bus.specs.Pasts.{Past}
 use Rattle.bus.specs.Trails.{IsStep, Trail, past_of}
 use Rattle.bus.specs.declared.event.Access.{Access}
 use Rattle.bus.specs.declared.event.Event.{Event}

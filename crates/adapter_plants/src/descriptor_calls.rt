@@ -61,11 +61,16 @@ pub fn distance_twice(one: &Ring, other: &Ring, from: u16, to: u16) -> (u32, u32
 }
 
 /// Calls [`Ring::descriptor`] twice.
-pub fn descriptor_twice(one: &Ring, other: &Ring, index: u16) -> (Option<u64>, Option<u64>)
+pub fn descriptor_twice(
+    one: &Ring,
+    other: &Ring,
+    index: u16,
+    size: u64,
+) -> (Option<u64>, Option<u64>)
     requires { one.now ≡ other.now }
     ensures { result.0 ≡ result.1 }
 {
-    (one.descriptor(index), other.descriptor(index))
+    (one.descriptor(index, size), other.descriptor(index, size))
 }
 
 /// Calls [`Frame::try_from_slice`] twice.

@@ -1,5 +1,5 @@
 -- The receive ring is set up at rest, and a driver begins.
-use Rattle.std.proofs.Common.{◌≡◌, ◌≤◌, ◌<◌, ◌+◌, ◌*◌, ◌/◌, ◌%◌, ◌^◌, ◌++◌, ◌∷◌, [], ℕ, List, length, map, false, inr, refl, sym, ap, subst}
+use Rattle.std.proofs.Common.{◌≡◌, ◌≤◌, ◌+◌, ◌*◌, ◌/◌, ◌%◌, ◌^◌, ◌++◌, ◌∷◌, [], ℕ, List, length, map, false, inr, refl, sym, ap, subst}
 use Rattle.std.proofs.Common.{◌∙◌, arith}
 use Rattle.std.specs.List.{take_while}
 use Rattle.std.proofs.lemmas.List.{append-nil}
@@ -10,8 +10,7 @@ use Rattle.registers.specs.Bits.{HasBit}
 use Rattle.registers.specs.Laws.{HasBit-zero}
 use Rattle.dma_memory.specs.Areas.{AreApart, AreSeparate, Area}
 use Rattle.dma_memory.specs.HostMemory.{LiesIn}
-use Rattle.dma_memory.specs.Layout.{IsRingSize, size_of}
-use Rattle.dma_memory.specs.LayoutLaws.{layout_begins}
+use Rattle.dma_memory.specs.Layout.{IsRingSize}
 use Rattle.dma_memory.specs.Owners.{HasOneOwner}
 use Rattle.descriptors.specs.Ring.{count_of}
 use Rattle.rx_engine.specs.Held.{held}
@@ -178,8 +177,6 @@ pub drivers_begin_at_rest : DriversBeginAtRest
 drivers_begin_at_rest counts setup groups pool world allowed owner lies has =
     let rest = has.rest in
     let idle = rest_is_idle world rest in
-    let behind = layout_begins counts in
-    let small : size_of counts < 2 ^ 64 = omega (arith, behind.first, allowed.rx.most, allowed.tx.most, allowed.buffers.most) in
     let buffer = ap (λ (transmitter : Transmitter). transmitter.buffer) rest.transmitter in
     let transmits = has.transmits in
     let off : ¬ (HasBit world.adapter.filter.rctl rctl_en) = subst (λ (control : ℕ). ¬ (HasBit control 1)) (sym rest.control)
@@ -189,7 +186,7 @@ drivers_begin_at_rest counts setup groups pool world allowed owner lies has =
         oldest_slot = omega (arith, allowed.rx.least);
         room = omega (arith, allowed.rx.least);
         one_owner = subst (HasOneOwner counts.buffers) (sym (append-nil pool)) owner;
-        addresses = small;
+        allowed = allowed;
       };
       idle = idle.0;
       runs = idle.1;
@@ -227,7 +224,7 @@ drivers_begin_again driver pool world allowed rests has =
           oldest_slot = base.driver_is.oldest_slot;
           room = base.driver_is.room;
           one_owner = rests.one_owner;
-          addresses = base.driver_is.addresses;
+          allowed = base.driver_is.allowed;
         };
         law = base.law;
         lies = rests.lies;

@@ -1,6 +1,6 @@
 -- A word of the group table is written, over a bus.
-use Rattle.std.proofs.Common.{◌≡◌, ◌<◌, ◌+◌, ◌*◌, ◌/◌, ◌^◌, ◌∷◌, [], Bool, ℕ, List, length, inl, inr, refl, sym}
-use Rattle.std.proofs.Common.{ap, subst, ◌∙◌, arith}
+use Rattle.std.proofs.Common.{◌≡◌, ◌<◌, ◌+◌, ◌*◌, ◌/◌, ◌^◌, ◌∷◌, [], Bool, ℕ, List, inl, inr, refl, sym}
+use Rattle.std.proofs.Common.{ap, subst, ◌∙◌}
 use Rattle.std.specs.Prelude.{slice_set}
 use Rattle.std.proofs.lemmas.List.Elements.{All-set}
 use Rattle.rx_engine.specs.NumberTables.{HasNumbers, numbers_of_groups}
@@ -72,7 +72,7 @@ regrouped-ready d groups a ready = record {
     oldest_slot = ready.driver_is.oldest_slot;
     room = ready.driver_is.room;
     one_owner = ready.driver_is.one_owner;
-    addresses = ready.driver_is.addresses;
+    allowed = ready.driver_is.allowed;
   };
   law = ready.law;
   lies = ready.lies;

@@ -41,8 +41,8 @@ pub fn read_image<B: Bus>(bus: &mut B) -> Result<Image, InitError>
     Ok(Image::from_words(words))
 }
 
-/// Reads the word of the EEPROM at this address, from 0 to 63. Returns an error if 1,000 reads of EERD didn't show
-/// DONE.
+/// Reads the word of the EEPROM at this address. An adapter answers FFFFh for an address above 63 (our choice). Returns
+/// an error if 1,000 reads of EERD didn't show DONE.
 fn read_word<B: Bus>(bus: &mut B, address: u8) -> Result<u16, InitError>
     ensures keeps { Keeps B.Bus bus.old bus.new }
     ensures only { IsOkUnless result InitError.EepromTimeout }

@@ -2,18 +2,13 @@
 use Rattle.std.proofs.Common.{arith, ◌≡◌, ◌≤◌, ◌-◌, ◌++◌, [], true, false, ℕ, Bool, List, Option, None, Some, length, map}
 use Rattle.std.proofs.Common.{if◌then◌else◌, refl, sym, ap, subst, ◌∙◌}
 use Rattle.std.specs.List.{All, take_while}
-use Rattle.descriptors.specs.declared.ring.Ring.{Ring}
-use Rattle.descriptors.specs.Ring.{address_of, offered_places}
-use Rattle.descriptors.specs.RingLaws.{places-none}
 use Rattle.registers.specs.Bits.{HasBit}
 use Rattle.registers.specs.Laws.{HasBit-zero}
 use Rattle.rx_engine.specs.Held.{held, in_slots}
 use Rattle.rx_engine.specs.Pieces.{Piece, frames_of}
 use Rattle.rx_engine.specs.Receiver.{Receiver, new_receiver, oldest}
 use Rattle.rx_engine.specs.Registers.{FilterRegisters}
-use Rattle.tx_engine.specs.Fetching.{frame_at}
-use Rattle.tx_engine.specs.ToSend.{to_send}
-use Rattle.tx_engine.specs.Transmitter.{Queued, Transmitter, new_transmitter}
+use Rattle.tx_engine.specs.Transmitter.{Transmitter, new_transmitter}
 use Rattle.adapter.specs.declared.register.Register.{Register}
 use Rattle.adapter.specs.declared.register.Register.TheVariants.{Icr, Mpc, Gprc, Gptc, Rctl, Receive, Rnbc, Transmit}
 use Rattle.adapter.specs.HostFrames.{finished_pieces, frames_held, frames_to_send, piece_in}

@@ -69,7 +69,7 @@ ready-set driver world other ready law transmit = record {
 pub same-driver : (driver : DriverState) (oldest sending missed : ℕ) (exact : Bool) → IsDriver driver
     → IsDriver (record driver { oldest_transmit = oldest; sending = sending; missed = missed; exact = exact })
 same-driver driver oldest sending missed exact is = record
-    { oldest_slot = is.oldest_slot; room = is.room; one_owner = is.one_owner; addresses = is.addresses }
+    { oldest_slot = is.oldest_slot; room = is.room; one_owner = is.one_owner; allowed = is.allowed }
 
 transmit-left : (up : Bool) (driver : DriverState) (a b : World) → SameParts a b
     → TransmitIs up driver.layout driver.oldest_transmit driver.sending (transmit_side a)

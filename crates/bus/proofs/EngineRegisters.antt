@@ -6,7 +6,6 @@ use Rattle.registers.specs.Laws.{HasBit-union}
 use Rattle.descriptors.specs.Frames.{IsLegal}
 use Rattle.descriptors.specs.Ring.{HasValidIndices}
 use Rattle.adapter.specs.Rings.{ring_of}
-use Rattle.adapter.specs.State.{AdapterState}
 use Rattle.adapter.specs.World.{World}
 use Rattle.bus.specs.Law.{CountsArrivals, MovesByTicks, Steady}
 use Rattle.bus.specs.Pasts.{Past}

@@ -1,7 +1,7 @@
 -- Two consecutive intervals of a driver's run join. An interval in which no recorded cause is cleared forgets no work.
 use Rattle.std.proofs.Common.{◌≡◌, ◌≤◌, ◌<◌, ◌^◌, ◌+◌, ◌++◌, [], ⊎_elim}
-use Rattle.std.proofs.Common.{Bool, IsTrue, ℕ, List, length, refl, inl, inr, subst, sym, ap}
-use Rattle.std.proofs.Common.{◌∙◌, add-zero, append_assoc, length-append, arith}
+use Rattle.std.proofs.Common.{Bool, IsTrue, ℕ, List, length, inl, inr, subst, sym, ap}
+use Rattle.std.proofs.Common.{◌∙◌, append_assoc, length-append, arith}
 use Rattle.std.proofs.lemmas.Bool.{cases_lt}
 use Rattle.std.proofs.lemmas.List.{append-nil, nil_from_length}
 use Rattle.registers.specs.Bits.{HasBit}

@@ -8,12 +8,12 @@ use Rattle.registers.specs.declared.phy.Negotiation.{Negotiation}
 use Rattle.registers.specs.declared.phy.Negotiation.TheVariants.{NotStarted, Running, Complete}
 use Rattle.registers.specs.Mdic.{has_work, mdic_after_tick, phy_after_tick, phy_ended}
 use Rattle.registers.specs.Phy.{after_tick, counted_down, is_complete, link_is_up}
-use Rattle.adapter.specs.Registers.{after_read, after_write, left_by_read, left_by_write, read_of, write_of}
+use Rattle.adapter.specs.Registers.{after_read, after_write, left_by_write, write_of}
 use Rattle.adapter.specs.State.{AdapterState}
 use Rattle.adapter.specs.Table.{register_at}
 use Rattle.adapter.specs.World.{World}
 use Rattle.adapter.specs.declared.register.Register.{Register}
-use Rattle.adapter.specs.declared.register.Register.TheVariants.{Ctrl, Gprc, Gptc, Icr, Mdic, Mpc, Rnbc}
+use Rattle.adapter.specs.declared.register.Register.TheVariants.{Ctrl, Mdic}
 use Rattle.bus.specs.Law.{Management, management_of, phy_ticked}
 use Rattle.bus.specs.Link.{AccessesKeepLink, HappeningsKeepLink, HasLink, IsNotOfPhy, LeavesPhy, LinkIntervalsJoin}
 use Rattle.bus.specs.Settings.{Write, writes_in}

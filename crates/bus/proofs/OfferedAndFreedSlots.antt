@@ -11,7 +11,7 @@ use Rattle.dma_memory.specs.Areas.{AreApart, Area, IsInside, area_at}
 use Rattle.dma_memory.specs.AreaLaws.{inside-apart}
 use Rattle.dma_memory.specs.HostMemory.{LiesIn, bytes_at}
 use Rattle.dma_memory.specs.Layout.{TransmitBuffer, area_of, receive_buffer_bytes}
-use Rattle.dma_memory.specs.LayoutLaws.{place-below_size}
+use Rattle.dma_memory.specs.LayoutLaws.{addresses-fit, place-below_size}
 use Rattle.descriptors.specs.Frames.{padded}
 use Rattle.descriptors.specs.Laws.{length-tx_desc_bytes, tx_desc_of-tx_desc_bytes}
 use Rattle.descriptors.specs.Ring.{address_of, next_of, slots_from}
@@ -35,7 +35,7 @@ use Rattle.bus.specs.FreedSlots.{behind_oldest_transmit}
 use Rattle.bus.specs.DriverState.{DriverState, transmit_slot, transmit_tail}
 use Rattle.bus.specs.ReadyDrivers.{Ready}
 use Rattle.bus.specs.Calls.{transmit_buffer, whole_descriptor}
-use Rattle.bus.specs.TransmitSteps.{FrameIsOffered, NoneIsWrittenBack, SlotIsFreed, with_freed}
+use Rattle.bus.specs.TransmitSteps.{FrameIsOffered, NoneIsWrittenBack, SlotIsFreed}
 use Rattle.bus.proofs.Places.{outstanding-known, place-next, places-differ}
 use Rattle.bus.proofs.StepsWithoutFrames.{goes-rests}
 use Rattle.bus.proofs.Intervals.{misses-stay}
@@ -119,7 +119,8 @@ frame_is_offered driver frame world ready room least short stands =
     let inside : IsInside area whole = record { from = omega arith; to = omega (arith, short) } in
     let ends = place-below_size counts (TransmitBuffer slot) buffer.below in
     let is : at ≡ address_of ring ring.tail = omega (arith, up.knows.begins, up.knows.last) in
-    let reads = whole-says world.memory at start size (omega (arith, ends, ready.driver_is.addresses)) short stands.descriptor in
+    let fits : start < 2 ^ 64 = omega (arith, ends, addresses-fit ready.driver_is.allowed) in
+    let reads = whole-says world.memory at start size fits short stands.descriptor in
     let says = subst (λ (address : ℕ). Says world.memory address start size) is reads in
     let lies : LiesIn world.memory start size = omega (arith, buffer.lies, short) in
     let apart : All (λ other. AreApart other area) (areas o world) = λ i d below. inside-apart _ area whole inside
@@ -155,7 +156,7 @@ frame_is_offered driver frame world ready room least short stands =
             room = ready.driver_is.room;
             one_owner =
                 ready.driver_is.one_owner;
-            addresses = ready.driver_is.addresses;
+            allowed = ready.driver_is.allowed;
           };
           law = record {
             sound = done.sound;

@@ -1,5 +1,5 @@
 -- A driver is still ready in another world in which everything is the same that the driver relies on.
-use Rattle.std.proofs.Common.{true, false, Bool, ◌≡◌, ◌≤◌, ◌<◌, ◌+◌, ◌*◌, ◌%◌, ◌++◌, ◌∷◌, [], ℕ, suc, List, length, get_or, map, sym}
+use Rattle.std.proofs.Common.{true, false, Bool, ◌≡◌, ◌≤◌, ◌<◌, ◌+◌, ◌*◌, ◌%◌, ◌∷◌, [], ℕ, suc, List, length, get_or, map, sym}
 use Rattle.std.proofs.Common.{ap, subst, ◌∙◌, arith}
 use Rattle.std.specs.List.{All}
 use Rattle.registers.specs.Bits.{HasBit}
@@ -9,9 +9,8 @@ use Rattle.dma_memory.specs.Layout.{Counts, TransmitBuffer, area_of, size_of, re
 use Rattle.descriptors.specs.declared.ring.Ring.{Ring}
 use Rattle.descriptors.specs.declared.tx_desc.TxDesc.{TxDesc}
 use Rattle.descriptors.specs.Ring.{address_of, offered_places, slots_from}
-use Rattle.descriptors.specs.RingLaws.{places-none, place}
+use Rattle.descriptors.specs.RingLaws.{place}
 use Rattle.rx_engine.specs.Descriptors.{named_address}
-use Rattle.tx_engine.specs.Fetching.{frame_at}
 use Rattle.tx_engine.specs.ToSend.{to_send}
 use Rattle.tx_engine.specs.Transmitter.{Queued}
 use Rattle.adapter.specs.HostAreas.{data_of}

@@ -1,39 +1,33 @@
 -- Writes and reads of registers after which the conditions of the law hold.
-use Rattle.std.proofs.Common.{◌≡◌, ◌≤◌, ◌<◌, ◌+◌, ◌%◌, ◌++◌, ◌∷◌, [], true, false, ℕ, Bool, List, Option, None, Some, zero, suc}
+use Rattle.std.proofs.Common.{◌≡◌, ◌≤◌, ◌<◌, ◌+◌, ◌%◌, ◌++◌, ◌∷◌, [], true, false, ℕ, Bool, List, zero, suc}
 use Rattle.std.proofs.Common.{if◌then◌else◌, map, refl, sym, ap, subst, ◌∙◌, append_assoc, arith}
 use Rattle.dma_memory.specs.Areas.{AreSeparate}
 use Rattle.std.specs.Fn.{iterate}
 use Rattle.std.specs.List.{All}
 use Rattle.std.proofs.lemmas.List.{append-nil}
 use Rattle.std.proofs.Math.Nat.{mod-add-mod, mod-eq_of_lt}
-use Rattle.descriptors.specs.Ring.{address_of, count_of, next_of, offered_places, slots_from}
-use Rattle.descriptors.specs.RingLaws.{next-below, places-none}
+use Rattle.descriptors.specs.Ring.{address_of, count_of, next_of, slots_from}
+use Rattle.descriptors.specs.RingLaws.{next-below}
 use Rattle.registers.specs.declared.phy.Link.TheVariants.{Never}
 use Rattle.registers.specs.Bits.{HasBit, field}
 use Rattle.registers.specs.Places.{rctl_en, tctl_psp}
 use Rattle.registers.specs.ReceiveControl.{buffer_size_of}
-use Rattle.rx_engine.specs.Receiver.{Receiver}
 use Rattle.rx_engine.specs.Registers.{FilterRegisters}
-use Rattle.tx_engine.specs.Fetching.{fetched, frame_at}
-use Rattle.tx_engine.specs.ToSend.{to_send}
-use Rattle.tx_engine.specs.Transmitter.{Queued, Transmitter}
-use Rattle.adapter.specs.declared.register.Register.{Register}
-use Rattle.adapter.specs.declared.register.Register.TheVariants.{Icr, Mpc, Gprc, Gptc, Rnbc}
-use Rattle.adapter.specs.declared.ring.RingRegisters.{RingRegisters}
-use Rattle.adapter.specs.Registers.{after_reset, by_row, is_reset, left_by_read, new_adapter, read_of, after_read}
+use Rattle.tx_engine.specs.Fetching.{fetched}
+use Rattle.tx_engine.specs.Transmitter.{Queued}
+use Rattle.adapter.specs.Registers.{after_reset, by_row, is_reset, new_adapter, after_read}
 use Rattle.adapter.specs.HostAreas.{areas}
 use Rattle.adapter.specs.Rings.{ring_of}
 use Rattle.adapter.specs.State.{AdapterState}
-use Rattle.adapter.specs.Table.{register_at, row_of}
-use Rattle.adapter.specs.Slots.{finished, offered, outstanding, written_back_slots}
-use Rattle.adapter.specs.HostFrames.{finished_pieces, frames_held, frames_to_send}
+use Rattle.adapter.specs.Table.{row_of}
+use Rattle.adapter.specs.Slots.{offered, outstanding}
 use Rattle.bus.specs.RegisterSetting.{CanOfferMany, ManySlotsCanBeOffered, OfferedMany, OtherWritesLeaveFrames, ReadsLeaveFrames}
 use Rattle.bus.specs.RegisterSetting.{ReceiverCanBeSet, ReceiverSet, TransmitRingCanBeSet, TransmitterCanBeSet, with_receive_control}
 use Rattle.bus.specs.RegisterSetting.{with_tail, with_transmit_control}
-use Rattle.adapter.specs.Conditions.{AreCut, FitBuffers, Reports, Sound}
+use Rattle.adapter.specs.Conditions.{Reports, Sound}
 use Rattle.bus.specs.SlotOffers.{offering}
 use Rattle.bus.specs.DriversStores.{LeavesFrames, SameFrames}
-use Rattle.adapter.specs.Running.{CanRun, CanTransmit}
+use Rattle.adapter.specs.Running.{CanTransmit}
 use Rattle.adapter.specs.World.{receive_ring, World}
 use Rattle.bus.proofs.IdleRings.{dealt-idle, offered-none, outstanding-none, none-to_send}
 use Rattle.bus.proofs.Lists.{all-none}

@@ -8,13 +8,12 @@ use Rattle.std.proofs.lemmas.List.{append-nil}
 use Rattle.std.proofs.lemmas.List.Elements.{All-append, All-cons}
 use Rattle.dma_memory.specs.Areas.{AreApart, AreSeparate, Area, ChangesOnly, IsInside, descriptor_area}
 use Rattle.dma_memory.specs.AreaLaws.{apart-inside, apart-sym, changes_only_stored, inside-apart}
-use Rattle.registers.specs.Bits.{union}
 use Rattle.dma_memory.specs.Laws.{length-with_bytes}
-use Rattle.descriptors.specs.Ring.{address_of, next_of}
+use Rattle.descriptors.specs.Ring.{address_of}
 use Rattle.descriptors.specs.RxDesc.{rx_desc_of}
 use Rattle.rx_engine.specs.Descriptors as receive
 use Rattle.rx_engine.specs.Receiver.{IsReceiver, Receiver, oldest}
-use Rattle.rx_engine.specs.Pieces.{IsCut, IsPart, Piece, begun_of}
+use Rattle.rx_engine.specs.Pieces.{IsCut, Piece, begun_of}
 use Rattle.rx_engine.specs.Held.{HasBegun, Holds, MovesApart, held, in_work, piece_of}
 use Rattle.rx_engine.specs.Laws.{bytes_of_work-moved, held-after_data}
 use Rattle.rx_engine.specs.Moving.{is_half_offered, next_piece, work_at}
@@ -29,7 +28,7 @@ use Rattle.adapter.specs.Outcomes.{FrameOutcome}
 use Rattle.adapter.specs.declared.outcome.Outcome.TheVariants.{Part, Moved, Nothing, Fault}
 use Rattle.adapter.specs.HostAreas.{areas, buffer_of, buffer_size, data_of, offered_buffers, receives, reported_half}
 use Rattle.adapter.specs.HostAreas.{ring_area, status_byte, work_areas}
-use Rattle.adapter.specs.Slots.{buffered, done_slots, finished, is_done, IsDealt, offered, outstanding, written_back_slots}
+use Rattle.adapter.specs.Slots.{buffered, done_slots, finished, is_done, IsDealt, offered, outstanding}
 use Rattle.adapter.specs.HostFrames.{finished_pieces, frames_held, named, piece_in, pieces_in_slots}
 use Rattle.adapter.specs.Conditions.{AreCut, Reports, Sound}
 use Rattle.bus.specs.Law.{Between, Happens}

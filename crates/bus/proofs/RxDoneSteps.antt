@@ -24,14 +24,14 @@ use Rattle.rx_engine.specs.Pieces.Piece.{Part}
 use Rattle.rx_engine.specs.Laws.{descriptor_at-finished, memory_after_done-lies, written_back-finished}
 use Rattle.rx_engine.specs.declared.engine.Work.{Work}
 use Rattle.tx_engine.specs.Transmitter.{Queued}
-use Rattle.adapter.specs.Receiving.{DoneAnswers, after_done, causes_of_finishing, received_counted}
+use Rattle.adapter.specs.Receiving.{DoneAnswers, after_done, causes_of_finishing}
 use Rattle.adapter.specs.State.{AdapterState}
 use Rattle.adapter.specs.declared.step.StepKind.TheVariants.{RxDone}
 use Rattle.adapter.specs.Outcomes.{FrameOutcome}
 use Rattle.adapter.specs.declared.outcome.Outcome.TheVariants.{Done, Nothing}
 use Rattle.adapter.specs.HostAreas.{areas, buffer_of, data_of, frame_areas, offered_buffers, receives, reported_half}
 use Rattle.adapter.specs.HostAreas.{ring_area, status_byte}
-use Rattle.adapter.specs.Slots.{buffered, done_slots, finished, slots_in_work, is_done, offered, written_back_slots}
+use Rattle.adapter.specs.Slots.{buffered, done_slots, finished, slots_in_work, is_done, offered}
 use Rattle.adapter.specs.HostFrames.{finished_pieces, frames_held, named, piece_in, pieces_in_slots}
 use Rattle.adapter.specs.Conditions.{Reports, Sound}
 use Rattle.bus.specs.Law.{Between, Happens}
@@ -49,7 +49,6 @@ use Rattle.bus.proofs.Lists.{all-head, all-left, all-none, all-right, all-tail, 
 use Rattle.bus.proofs.RxDataSteps.{with_work}
 use Rattle.bus.proofs.RunningEngines.{still_run, transmittable-kept}
 use Rattle.bus.proofs.Rings.{dealt-others, dealt-reported, dealt-right, outstanding-inside}
-use Rattle.descriptors.specs.Frames.{IsLegal}
 
 is_done-finished : (memory : List ℕ) (descriptor : ℕ) (ends : Bool) (piece : List ℕ) → IsFinished memory descriptor ends piece
     → is_done memory descriptor ≡ true

@@ -4,10 +4,10 @@ use Rattle.std.specs.List.{All}
 use Rattle.registers.specs.Bits.{HasBit}
 use Rattle.registers.specs.Laws.{HasBit-zero}
 use Rattle.adapter.specs.declared.register.Register.{Register}
-use Rattle.adapter.specs.declared.register.Register.TheVariants.{Gprc, Gptc, Icr, Mpc, Rctl, Receive, Rnbc, Transmit}
+use Rattle.adapter.specs.declared.register.Register.TheVariants.{Rctl, Receive, Transmit}
 use Rattle.adapter.specs.declared.register.RingRegister.TheVariants.{BaseLow, BaseHigh, Length, Head, Tail}
 use Rattle.adapter.specs.declared.ring.RingRegisters.{RingRegisters}
-use Rattle.adapter.specs.Registers.{after_read, after_reset, by_row, is_reset, left_by_read, left_by_write, read_of}
+use Rattle.adapter.specs.Registers.{after_read, after_reset, by_row, is_reset, left_by_write}
 use Rattle.adapter.specs.State.{AdapterState}
 use Rattle.adapter.specs.Table.{register_at, row_of}
 use Rattle.bus.specs.declared.event.Access.{Access}

@@ -8,7 +8,7 @@ use Rattle.std.proofs.lemmas.List.{append-nil, map-append}
 use Rattle.dma_memory.specs.Areas.{AreApart, Area, area_at}
 use Rattle.dma_memory.specs.HostMemory.{LiesIn, bytes_at}
 use Rattle.dma_memory.specs.Layout.{ReceiveBuffer, area_of, receive_buffer_bytes}
-use Rattle.dma_memory.specs.LayoutLaws.{place-below_size}
+use Rattle.dma_memory.specs.LayoutLaws.{addresses-fit, place-below_size}
 use Rattle.dma_memory.specs.Owners.{copies}
 use Rattle.dma_memory.specs.OwnersLaws.{copies-cons, copies-itself, copies-push}
 use Rattle.descriptors.specs.Ring.{address_of, next_of}
@@ -58,7 +58,7 @@ next-offer {up} d m rest a staged ready =
     let ends = place-below_size d.layout (ReceiveBuffer m) elsewhere.known in
     let here = subst (λ (list : List ℕ). AreStored a.memory d.layout (receive_tail d) list) staged ready.slots.stored in
     let is : slot ≡ receive_slot (receive_tail d) = omega (arith, ready.receive.begins, ready.receive.last) in
-    let empty = empty-stored a.memory slot at (omega (arith, ends, ready.driver_is.addresses))
+    let empty = empty-stored a.memory slot at (omega (arith, ends, addresses-fit ready.driver_is.allowed))
     (ap (λ (address : ℕ). bytes_at a.memory address 16) is ∙ here.0) in
     let stands : HasBit a.adapter.filter.rctl rctl_en → buffer_of a slot ≡ area = λ enabled.
     ap (λ (address : ℕ). area_at address (buffer_size a)) empty.names ∙ ap (area_at at) (ready.law.whole.sized enabled) in
@@ -101,7 +101,7 @@ goes-offers_one {up} d m rest a staged ready =
         room = omega (arith, ready.driver_is.room, longer, ap length staged);
         one_owner = one_owner-dealt d.layout.buffers d d'
             (λ k. omega (arith, copies-push k m d.buffers, ap (copies k) staged, copies-cons k m rest)) ready.driver_is.one_owner;
-        addresses = ready.driver_is.addresses;
+        allowed = ready.driver_is.allowed;
       };
       law = record {
         sound = done.same.sound;

@@ -1,32 +1,24 @@
 -- Steps that don't change memory, rings and slots: ticks, arrivals, and faults.
-use Rattle.std.specs.Fn.{iterate}
-use Rattle.std.proofs.Common.{◌≡◌, ◌≤◌, ◌++◌, [], inl, Bool, true, false, ℕ, List, Option, Some, None, length, refl, sym, ap, arith}
+use Rattle.std.proofs.Common.{◌≡◌, [], inl, Bool, true, false, ℕ, List, Option, Some, None, refl, sym, arith}
 use Rattle.std.proofs.lemmas.List.{append-nil}
 use Rattle.std.proofs.Common.{cond}
-use Rattle.registers.specs.Eerd as eeprom
-use Rattle.registers.specs.declared.eerd.ReadState.{ReadState}
 use Rattle.registers.specs.Mdic.{MdicState, has_work, mdic_after_tick, phy_after_tick, told}
 use Rattle.registers.specs.Mdic as mdi
 use Rattle.registers.specs.Phy.{PhyState}
 use Rattle.registers.specs.Phy as phy
 use Rattle.registers.specs.declared.mdic.Ticked.{Ticked as Told}
-use Rattle.registers.specs.Bits.{HasBit, union}
-use Rattle.registers.specs.Counting.{greatest_count}
 use Rattle.rx_engine.specs.Held.{Holds, held}
 use Rattle.rx_engine.specs.Laws.{held-after_arrival}
-use Rattle.rx_engine.specs.Pieces.{IsPart}
 use Rattle.rx_engine.specs.declared.arrival.Fate.{Fate}
 use Rattle.rx_engine.specs.declared.arrival.Fate.TheVariants.{Off, Illegal, Filtered, Missed, Stored}
-use Rattle.adapter.specs.Receiving.{IsFate, no_buffers_counted}
-use Rattle.adapter.specs.Recording.{one_more}
+use Rattle.adapter.specs.Receiving.{IsFate}
 use Rattle.adapter.specs.State.{AdapterState}
 use Rattle.adapter.specs.Steps.{after_phy_told, causes_told}
 use Rattle.adapter.specs.declared.step.StepKind.TheVariants.{EepromTick, PhyTick}
 use Rattle.adapter.specs.Outcomes.{FrameOutcome}
-use Rattle.adapter.specs.Slots.{finished, written_back_slots}
-use Rattle.adapter.specs.HostFrames.{finished_pieces, frames_held, frames_to_send}
+use Rattle.adapter.specs.HostFrames.{finished_pieces, frames_held}
 use Rattle.adapter.specs.Conditions.{Sound}
-use Rattle.bus.specs.Law.{Between, Happens, Management, Steady, management_of, phy_ticked}
+use Rattle.bus.specs.Law.{Between, Happens, Management, management_of, phy_ticked}
 use Rattle.bus.specs.Pasts.{Past, nothing}
 use Rattle.adapter.specs.Running.{CanRun}
 use Rattle.bus.specs.StepsAndArrivals.{past_of_arrival, past_of_step, world_after_arrival, world_after_step}

@@ -171,7 +171,7 @@ slots_can_be_staged up d m pool a ready room known moves =
       room = omega (arith, room, length-append d.staged (m ∷ []));
       one_owner = one_owner-dealt d.layout.buffers d (with_staged d staged' pool)
           (λ k. omega (arith, moves k, copies-cons k m pool, copies-push k m d.staged)) ready.driver_is.one_owner;
-      addresses = ready.driver_is.addresses;
+      allowed = ready.driver_is.allowed;
     })
     (stored-push memory' d.layout (receive_tail d) d.staged m
     (stored-kept a.memory memory' d.layout (receive_tail d) d.staged others ready.slots.stored) here)

@@ -157,7 +157,7 @@ run_can_be_taken up d numbers run seen last a ready contain =
                   copies-append k (piece_numbers d.handed_out) numbers,
                 ))
                 ready.driver_is.one_owner;
-            addresses = ready.driver_is.addresses;
+            allowed = ready.driver_is.allowed;
           };
           law = record {
             sound = at.sound;
@@ -267,7 +267,7 @@ buffers_can_come_back up d pool handed_out a ready moves stand =
         room = ready.driver_is.room;
         one_owner = one_owner-dealt d.layout.buffers d (with_owners d d.buffers d.staged pool handed_out)
             (λ k. omega (arith, moves k)) ready.driver_is.one_owner;
-        addresses = ready.driver_is.addresses;
+        allowed = ready.driver_is.allowed;
       };
       law = ready.law;
       lies = ready.lies;

@@ -6,15 +6,13 @@ use Rattle.std.proofs.lemmas.Bool.Decides.{nat_tests}
 use Rattle.std.proofs.lemmas.List.{append-nil, get_or-append_right}
 use Rattle.dma_memory.specs.Areas.{AreApart, Area, ChangesOnly, IsInside, descriptor_area}
 use Rattle.dma_memory.specs.AreaLaws.{apart-inside, apart-sym, changes_only_stored, lies-inside}
-use Rattle.registers.specs.Bits.{is_set, union}
+use Rattle.registers.specs.Bits.{is_set}
 use Rattle.dma_memory.specs.HostMemory.{bytes_at, with_bytes, LiesIn}
 use Rattle.dma_memory.specs.Laws.{bytes_at-parts, bytes_at-stored, length-bytes_at, length-with_bytes}
-use Rattle.rx_engine.specs.Pieces.{IsPart}
 use Rattle.tx_engine.specs.Fetching.{fetched}
 use Rattle.tx_engine.specs.Steps.{written_back as reported_in}
 use Rattle.tx_engine.specs.Laws.{to_send-put}
 use Rattle.tx_engine.specs.Transmitter.{Queued}
-use Rattle.adapter.specs.Recording.{one_more}
 use Rattle.adapter.specs.State.{AdapterState}
 use Rattle.adapter.specs.Transmitting.{PutAnswers, after_put, causes_of_putting}
 use Rattle.adapter.specs.declared.step.StepKind.TheVariants.{TxPut}
@@ -23,12 +21,11 @@ use Rattle.adapter.specs.declared.outcome.Outcome.TheVariants.{Put, WireFull, No
 use Rattle.adapter.specs.HostAreas.{areas, buffer_of, data_of, frame_areas, offered_buffers, receives, reported_half, ring_area}
 use Rattle.adapter.specs.HostAreas.{status_byte, work_areas}
 use Rattle.adapter.specs.Slots.{buffered, finished, slots_in_work, is_done, offered}
-use Rattle.adapter.specs.HostFrames.{finished_pieces, frames_held, named}
+use Rattle.adapter.specs.HostFrames.{frames_held, named}
 use Rattle.adapter.specs.Conditions.{Reports, Sound}
 use Rattle.bus.specs.Law.{Between, Happens}
 use Rattle.bus.specs.Pasts.{nothing}
 use Rattle.bus.specs.StepsAndArrivals.{past_of_step, world_after_step}
-use Rattle.adapter.specs.State.{IsAdapter}
 use Rattle.adapter.specs.World.{receive_ring, transmit_ring, World}
 use Rattle.bus.proofs.Areas.{separate-same}
 use Rattle.bus.proofs.Composition.{finishes-none, happens_none}
@@ -37,8 +34,6 @@ use Rattle.bus.proofs.EngineRegisters.{added, no-arrivals, steady_moves}
 use Rattle.bus.proofs.WrittenAreas.{IsSame, buffers-kept, data-kept, fetched-kept, is_done-same, receive_kept, to_send-kept}
 use Rattle.bus.proofs.Lists.{all-head, all-left, all-right, all-tail, all-weaker, all-without, map-same, pairs-head, pairs-tail}
 use Rattle.bus.proofs.Rings.{dealt-others, dealt-reported, dealt-right, outstanding-inside}
-use Rattle.descriptors.specs.Frames.{IsLegal}
-use Rattle.bus.proofs.Lists.{all-none}
 use Rattle.bus.proofs.RunningEngines.{still_run, transmittable-kept}
 
 pub is_done-reported : (memory : List ℕ) (descriptor : ℕ) → LiesIn memory descriptor 16 → LiesIn memory (descriptor + 12) 1

@@ -1,12 +1,10 @@
 -- A frame is taken from the transmit ring.
-use Rattle.std.proofs.Common.{◌≡◌, inl, inr, ◌++◌, ◌∷◌, [], Bool, true, ℕ, List, map, refl, sym, ap, subst, ◌∙◌, append_assoc, arith}
+use Rattle.std.proofs.Common.{◌≡◌, inl, inr, ◌++◌, ◌∷◌, [], Bool, true, ℕ, List, map, refl, sym, ap, subst, ◌∙◌, append_assoc}
 use Rattle.std.specs.List.{All}
 use Rattle.std.proofs.lemmas.Bool.{eq-eqb}
 use Rattle.std.proofs.lemmas.List.{append-nil, map-append}
 use Rattle.dma_memory.specs.Areas.{AreApart, AreSeparate}
-use Rattle.registers.specs.Bits.{union}
-use Rattle.descriptors.specs.Ring.{HasValidIndices, address_of, next_of}
-use Rattle.rx_engine.specs.Pieces.{IsPart}
+use Rattle.descriptors.specs.Ring.{HasValidIndices, address_of}
 use Rattle.tx_engine.specs.Fetching.{fetched, pads}
 use Rattle.tx_engine.specs.Laws.{to_send-take}
 use Rattle.tx_engine.specs.Transmitter.{Queued}
@@ -15,15 +13,14 @@ use Rattle.adapter.specs.Transmitting.{CanTake, HasNothingToTake, TakeAnswers, c
 use Rattle.adapter.specs.declared.step.StepKind.TheVariants.{TxTake}
 use Rattle.adapter.specs.Outcomes.{FrameOutcome}
 use Rattle.adapter.specs.declared.outcome.Outcome.TheVariants.{Took, Nothing, Fault}
-use Rattle.adapter.specs.Slots.{buffered, finished, slots_in_work, IsDealt, offered, written_back_slots}
+use Rattle.adapter.specs.Slots.{buffered, finished, slots_in_work, IsDealt, offered}
 use Rattle.adapter.specs.HostAreas.{data_of, offered_buffers, reported_half, ring_area, status_byte, work_areas}
-use Rattle.adapter.specs.HostFrames.{finished_pieces, frames_held, named}
+use Rattle.adapter.specs.HostFrames.{frames_held, named}
 use Rattle.adapter.specs.Conditions.{Reports, Sound}
 use Rattle.bus.specs.Law.{Between, Happens}
 use Rattle.bus.specs.Pasts.{nothing}
 use Rattle.adapter.specs.Running.{CanTransmit}
 use Rattle.bus.specs.StepsAndArrivals.{world_after_step}
-use Rattle.adapter.specs.State.{IsAdapter}
 use Rattle.adapter.specs.World.{receive_ring, transmit_ring, World}
 use Rattle.bus.proofs.Areas.{separate-without}
 use Rattle.bus.proofs.Composition.{finishes-none, happens_none, puts-none}
@@ -31,8 +28,7 @@ use Rattle.bus.proofs.KeptPieces.{cut-kept}
 use Rattle.bus.proofs.StepsBesideRings.{between_stopped}
 use Rattle.bus.proofs.EngineRegisters.{added, no-arrivals, steady_moves}
 use Rattle.bus.proofs.Rings.{dealt-moved, offered-head}
-use Rattle.descriptors.specs.Frames.{IsLegal}
-use Rattle.bus.proofs.Lists.{all-none, all-tail}
+use Rattle.bus.proofs.Lists.{all-tail}
 use Rattle.bus.proofs.RunningEngines.{can_take}
 use Rattle.descriptors.specs.RingLaws.{next-below}
 use Rattle.descriptors.specs.Ring.{count_of}

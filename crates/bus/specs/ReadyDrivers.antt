@@ -3,7 +3,7 @@ use Rattle.std.specs.Prelude.{⊤, ◌≡◌, ◌≤◌, ◌<◌, ◌+◌, ◌*�
 use Rattle.registers.specs.Bits.{HasBit}
 use Rattle.dma_memory.specs.Areas.{IsInside}
 use Rattle.dma_memory.specs.HostMemory.{bytes_at}
-use Rattle.dma_memory.specs.Layout.{Counts, TransmitBuffer, area_of, descriptor_bytes, receive_buffer_bytes, size_of}
+use Rattle.dma_memory.specs.Layout.{Counts, IsAllowed, TransmitBuffer, area_of, descriptor_bytes, receive_buffer_bytes, size_of}
 use Rattle.dma_memory.specs.Owners.{HasOneOwner}
 use Rattle.descriptors.specs.declared.ring.Ring.{Ring}
 use Rattle.descriptors.specs.Ring.{count_of, slots_from}
@@ -19,7 +19,7 @@ use Rattle.adapter.specs.KnownRing.{KnowsRing}
 use Rattle.adapter.specs.Running.{CanRun}
 use Rattle.adapter.specs.Slots.{outstanding}
 use Rattle.adapter.specs.World.{World, receive_ring, transmit_ring}
-use Rattle.bus.specs.DriverState.{DriverState, HandedOut, address_limit, buffer_at, owners, receive_slot, receive_tail}
+use Rattle.bus.specs.DriverState.{DriverState, HandedOut, buffer_at, owners, receive_slot, receive_tail}
 use Rattle.bus.specs.DriverState.{transmit_slot}
 
 -- What always holds of the driver's own state, whatever the adapter does.
@@ -30,8 +30,8 @@ pub record IsDriver (driver : DriverState) : Type 0 where
   pub room : length driver.buffers + length driver.staged < driver.layout.rx
   -- Each buffer has exactly one owner.
   pub one_owner : HasOneOwner driver.layout.buffers (owners driver)
-  -- Each address of the layout fits into 64 bits.
-  pub addresses : size_of driver.layout < address_limit
+  -- The layout's counts of descriptors and receive buffers are allowed.
+  pub allowed : IsAllowed driver.layout
 
 -- The receive side
 

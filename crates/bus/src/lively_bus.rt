@@ -6,7 +6,8 @@ use crate::bus::{Bus, HonestBus};
 use crate::machine::Machine;
 use adapter::StepKind;
 
-/// A machine, lent to its driver. Before each access its EEPROM and its PHY take a step. Nothing else happens.
+/// A machine, lent to its driver. Before each access, a tick of the EEPROM and a tick of the PHY are played. No other
+/// step is played, and no frame arrives.
 #[derive(Drop)]
 pub struct LivelyBus<'a> {
     /// The machine.
@@ -18,7 +19,7 @@ pub struct LivelyBus<'a> {
 impl<'a> LivelyBus<'a> {
     ghost use Rattle.bus.specs.LivelyBuses.{IsPrepared};
 
-    /// Plays a step of the EEPROM and a step of the PHY, and counts the access that follows. The count saturates at the
+    /// Plays a tick of the EEPROM and a tick of the PHY, and counts the access that follows. The count saturates at the
     /// greatest `u64`.
     fn prepare(&mut self)
         ensures { IsPrepared self.old self.new }

@@ -53,18 +53,15 @@ fn clap_argument<'a>(alloc: Global, argument: &Argument<'a>) -> Arg<'a>
     }
 }
 
-/// Returns a subcommand in clap's form.
+/// Returns a subcommand in clap's form. No argument of the subcommand is global.
 fn clap_command<'a>(alloc: Global, subcommand: &Subcommand<'a>) -> Result<Command<'a>, AllocError>
     ensures app { IfOk result (λ command. app_of command ≡ app_for subcommand.now) }
-    ensures local { IfOk result (λ command. (fields_of command).has_globals ≡ false) }
+    ensures no_globals { IfOk result (λ command. (fields_of command).has_globals ≡ false) }
 {
     let Subcommand(name, about, note, arguments) = *subcommand;
     let mut command = Command::new(alloc, name).about(about).after_help(note);
     for argument in arguments {
-        let Ok(longer) = command.arg(clap_argument(alloc, argument)) else {
-            return Err(AllocError);
-        };
-        command = longer;
+        command = command.arg(clap_argument(alloc, argument))?;
     }
     Ok(command)
 }
@@ -122,10 +119,10 @@ pub(crate) const SUBCOMMANDS: [Subcommand<'static>; 5] = [
     Subcommand("drive", DRIVE_ABOUT, DRIVE_NOTE, &DRIVE_ARGUMENTS),
 ];
 
-/// Returns the program without its subcommands.
+/// Returns the program without its subcommands. No argument is global.
 fn bare_program<'a>(alloc: Global) -> Command<'a>
     ensures app { app_of result ≡ bare_app }
-    ensures local { (fields_of result).has_globals ≡ false }
+    ensures no_globals { (fields_of result).has_globals ≡ false }
 {
     Command::new(alloc, "nicbench")
         .about(PROGRAM_ABOUT)
@@ -135,24 +132,19 @@ fn bare_program<'a>(alloc: Global) -> Command<'a>
         .arg_required_else_help(true)
 }
 
-/// Returns the program with these subcommands.
+/// Returns the program with these subcommands. No argument is global.
 pub(crate) fn program_with<'a>(
     alloc: Global,
     subcommands: &[Subcommand<'a>],
 ) -> Result<Command<'a>, AllocError>
     ensures app { IfOk result (λ command. app_of command
         ≡ with_subcommands bare_app (map app_for subcommands.now)) }
-    ensures local { IfOk result (λ command. (fields_of command).has_globals ≡ false) }
+    ensures no_globals { IfOk result (λ command. (fields_of command).has_globals ≡ false) }
 {
     let mut program = bare_program(alloc);
     for subcommand in subcommands {
-        let Ok(command) = clap_command(alloc, subcommand) else {
-            return Err(AllocError);
-        };
-        let Ok(larger) = program.subcommand(command) else {
-            return Err(AllocError);
-        };
-        program = larger;
+        let command = clap_command(alloc, subcommand)?;
+        program = program.subcommand(command)?;
     }
     Ok(program)
 }

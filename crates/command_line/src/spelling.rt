@@ -1,5 +1,5 @@
 //! The texts of groups, numbers and links in options.
-ghost use Rattle.std.specs.Prelude.{◌≡◌, ◌≤◌, ℕ, List, IfSome, IfNone};
+ghost use Rattle.std.specs.Prelude.{◌≤◌, ℕ, List, IfSome, IfNone};
 ghost use Rattle.command_line.specs.Spelling.{SpellsDecimal, SpellsGroup, SpellsKilobytes, SpellsLink, SpellsNumber};
 ghost use Rattle.command_line.specs.declared.job.ServeLink.{ServeLink};
 

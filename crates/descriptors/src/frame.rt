@@ -1,4 +1,5 @@
 ghost use Rattle.std.specs.Prelude.{◌≡◌, ◌==◌, ◌≤◌, ◌↔◌, ⊤, [], length, IsSome, IfSome};
+ghost use Rattle.descriptors.specs.Frames.{is_sendable};
 
 use arrayvec::ArrayVec;
 use std::alloc::AllocError;
@@ -18,6 +19,13 @@ pub const SHORTEST_SENDABLE: usize = 14;
 
 /// The greatest number of bytes of a frame that can be sent.
 pub const LONGEST_SENDABLE: usize = LONGEST_LEGAL;
+
+/// Returns whether a frame can be sent: whether it has 14 to 1,518 bytes.
+pub fn is_sendable(frame: &[u8]) -> bool
+    ensures { result ≡ is_sendable frame.now }
+{
+    (SHORTEST_SENDABLE..=LONGEST_SENDABLE).contains(&frame.len())
+}
 
 /// An Ethernet frame of at most 1,518 bytes: destination address to end of data, without the check sequence.
 ///

@@ -17,7 +17,9 @@ mod tx_desc;
 
 pub use buffers::copy_of;
 pub use flags::{RxStatus, TxCommand, TxStatus};
-pub use frame::{Frame, LONGEST_LEGAL, LONGEST_SENDABLE, SHORTEST_LEGAL, SHORTEST_SENDABLE};
+pub use frame::{
+    Frame, LONGEST_LEGAL, LONGEST_SENDABLE, SHORTEST_LEGAL, SHORTEST_SENDABLE, is_sendable,
+};
 pub use laws::{
     descriptors_come_back, offered_places_go_from_head_to_tail,
     sendable_frames_are_padded_to_legal, transmit_descriptors_come_back,

@@ -126,6 +126,7 @@ impl PackedQueue {
             return;
         };
         self.first += usize::from(length);
+        // An empty queue begins at the start again, so that the next push moves no bytes.
         if self.lengths.is_empty() {
             self.first = 0;
             self.end = 0;

@@ -1,4 +1,4 @@
-ghost use Rattle.std.specs.Prelude.{◌≡◌, ◌<◌, ◌^◌, ◌↔◌, IsTrue, IsSome, IfSome};
+ghost use Rattle.std.specs.Prelude.{◌≡◌, ◌<◌, ◌≤◌, ◌+◌, ◌↔◌, IsTrue, IsSome, IfSome};
 
 /// The number of bytes of a descriptor.
 const DESCRIPTOR_BYTES: u32 = 16;
@@ -65,13 +65,16 @@ impl Ring {
         }
     }
 
-    /// Returns the address of the descriptor in the slot `index`, or `None` exactly if the address has more than 64
-    /// bits. Addresses don't wrap.
-    pub fn descriptor(&self, index: u16) -> Option<u64>
-        ensures in_range { IsSome result ↔ (address_of self.now index < 2 ^ 64) }
+    /// Returns the address of the descriptor in the slot `index`, or `None` exactly if a memory of `size` bytes doesn't
+    /// contain the descriptor. Addresses don't wrap.
+    pub fn descriptor(&self, index: u16, size: u64) -> Option<u64>
+        ensures inside { IsSome result ↔ (address_of self.now index + DESCRIPTOR_BYTES ≤ size) }
         ensures value { IfSome result (λ address. address ≡ address_of self.now index) }
     {
-        self.base
-            .checked_add(DESCRIPTOR_BYTES as u64 * index as u64)
+        let address = self
+            .base
+            .checked_add(u64::from(DESCRIPTOR_BYTES) * u64::from(index))?;
+        let end = address.checked_add(u64::from(DESCRIPTOR_BYTES))?;
+        (end <= size).then_some(address)
     }
 }

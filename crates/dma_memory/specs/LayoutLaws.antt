@@ -1,12 +1,17 @@
 -- Lemmas about layouts: where the buffers begin, that no two places overlap, and that all are inside the memory that the layout needs.
-use Rattle.std.proofs.Common.{◌≢◌, ◌+◌, ◌*◌, inl, inr, ℕ, refl, ap, arith}
+use Rattle.std.proofs.Common.{◌≢◌, ◌<◌, ◌+◌, ◌*◌, ◌^◌, inl, inr, ℕ, refl, ap, arith}
 use Rattle.std.proofs.lemmas.Bool.{cases_lt}
 use Rattle.dma_memory.specs.Areas.{area_at, AreApart}
-use Rattle.dma_memory.specs.Layout.{Counts, ReceiveRing, TransmitRing, TransmitBuffer, ReceiveBuffer, buffers_start, PlacesAreApart}
-use Rattle.dma_memory.specs.Layout.{PlacesLieBelowSize, BeginsAtNextMultiple}
+use Rattle.dma_memory.specs.Layout.{Counts, IsAllowed, ReceiveRing, TransmitRing, TransmitBuffer, ReceiveBuffer, buffers_start, size_of}
+use Rattle.dma_memory.specs.Layout.{BeginsAtNextMultiple, PlacesAreApart, PlacesLieBelowSize}
 
 pub layout_begins : (counts : Counts) → BeginsAtNextMultiple counts
 layout_begins counts = record { multiple = omega arith; behind_rings = omega arith; first = omega arith }
+
+-- Each address of an allowed layout fits into 64 bits.
+pub addresses-fit : {counts : Counts} → IsAllowed counts → size_of counts < 2 ^ 64
+addresses-fit {counts} allowed =
+    let first = (layout_begins counts).first in omega (arith, first, allowed.rx.most, allowed.tx.most, allowed.buffers.most)
 
 pub place-below_size : PlacesLieBelowSize
 place-below_size counts ReceiveRing has = let b = (layout_begins counts).behind_rings in omega arith

@@ -151,7 +151,7 @@ impl Layout {
         self.first_transmit_buffer() + TRANSMIT_BUFFER_BYTES * u64::from(slot)
     }
 
-    /// Returns the address of the receive buffer `number`.
+    /// Returns the address of the receive buffer `number`, which must be below [`buffers`](Layout::buffers).
     pub fn receive_buffer(&self, number: u16) -> u64
         requires { number < self.now.buffers }
         ensures start { result ≡ start_of self.now (ReceiveBuffer number) }

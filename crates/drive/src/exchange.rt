@@ -7,6 +7,7 @@ ghost use Rattle.bus.specs.Keeping.{Keeps};
 ghost use Rattle.drive.specs.Exchanging.{Exchanges, SendsFront, accepted_of, moment_of, saturated};
 
 use crate::{DriveError, DriveLimits, WatchedBus};
+use descriptors::{LONGEST_LEGAL, is_sendable};
 use driver::SendError;
 use packet_socket::Host;
 use pcap_trace::{Frames, RecordWriter, Sink, Unit, WriteError};
@@ -14,12 +15,6 @@ use text::turns;
 
 /// The only socket of the host, which takes all frames.
 const SOCKET: usize = 0;
-
-/// The size of the longest frame in bytes.
-const LONGEST: usize = 1518;
-
-/// The size of the shortest frame that can be sent, in bytes.
-const SHORTEST_SENDABLE: usize = 14;
 
 /// A host that exchanges frames with its adapter, and the trace of the frames that it received.
 #[derive(Drop)]
@@ -58,13 +53,6 @@ impl Handed {
     }
 }
 
-/// Returns whether a frame can be sent: whether it has 14 to 1,518 bytes.
-fn is_sendable(frame: &[u8]) -> bool
-    ensures { result ≡ is_sendable frame.now }
-{
-    SHORTEST_SENDABLE <= frame.len() && frame.len() <= LONGEST
-}
-
 impl Exchange {
     /// Takes the oldest frame that waits for the socket, and appends it to the trace. Returns whether a frame waited.
     fn take_frame<B: WatchedBus, S: Sink>(
@@ -79,7 +67,7 @@ impl Exchange {
             (moment_of bus.old self.old (S.taken sink.old)) (moment_of bus.new self.new (S.taken sink.new))) }
         ensures failures { OnOk result (S.failures sink.new ≡ S.failures sink.old) }
     {
-        let mut frame = [0; LONGEST];
+        let mut frame = [0; LONGEST_LEGAL];
         let Ok(size) = self.host.recv(bus, SOCKET, &mut frame) else {
             return Ok(false);
         };

@@ -1,10 +1,10 @@
 // How a driver looks at its oldest receive slots.
 
 ghost use Rattle.std.specs.Prelude.{◌≡◌, ◌↔◌, ◌+◌, ◌*◌, ◌^◌, ◌<◌, ◌≤◌, length};
-ghost use Rattle.std.specs.Prelude.{replicate, slice_set, IfNone, IfSome, IsTrue};
+ghost use Rattle.std.specs.Prelude.{slice_set, IfSome, IsTrue};
 ghost use Rattle.dma_memory.specs.Layout.{size_of};
 ghost use Rattle.dma_memory.specs.Owners.{HasNoSecondOwner};
-ghost use Rattle.registers.specs.Bits.{HasBit, is_set};
+ghost use Rattle.registers.specs.Bits.{is_set};
 ghost use Rattle.descriptors.specs.RxStatus.{dd, eop, status_bits};
 ghost use Rattle.bus.specs.Keeping.{Keeps};
 ghost use Rattle.bus.specs.Calls.{WhereReady, at};

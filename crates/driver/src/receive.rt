@@ -1,9 +1,9 @@
 // How a driver takes received frames off its ring, and shows them to a receiver.
 
-ghost use Rattle.std.specs.Prelude.{◌≡◌, ◌+◌, ◌<◌, ◌≤◌, ◌++◌, ◌∷◌, [], drop, length, take, All};
+ghost use Rattle.std.specs.Prelude.{◌≡◌, ◌+◌, ◌<◌, ◌≤◌, ◌++◌, drop, length, take, All};
 ghost use Rattle.circular_buffer.specs.Buffer.{buffer};
 ghost use Rattle.dma_memory.specs.Layout.{size_of};
-ghost use Rattle.dma_memory.specs.Owners.{HasNoSecondOwner, HaveSameNumbers};
+ghost use Rattle.dma_memory.specs.Owners.{HasNoSecondOwner};
 ghost use Rattle.bus.specs.Keeping.{Keeps};
 ghost use Rattle.bus.specs.Calls.{Runs, at, ether_type_load, only};
 ghost use Rattle.bus.specs.DriverState.{owners};

@@ -1,6 +1,6 @@
 // Receivers, which take the frames that a driver receives.
 
-ghost use Rattle.std.specs.Prelude.{◌≡◌, ◌++◌, [], ◌∷◌, List};
+ghost use Rattle.std.specs.Prelude.{◌++◌, [], List};
 ghost use Rattle.driver.specs.Answers.{ReceiverAnswers};
 ghost use Rattle.driver.specs.declared.receiver.Received.{Received};
 

@@ -17,7 +17,7 @@ fn the_code_of_the_readme_of_descriptors(rt: HostRuntime) {
     };
     assert!(rt; ring.has_valid_indices() && ring.distance(ring.head, ring.tail) == 7);
     ring.head = ring.next(ring.head);
-    assert!(rt; ring.descriptor(ring.head) == Some(0x90));
+    assert!(rt; ring.descriptor(ring.head, 0x100) == Some(0x90));
 }
 
 #[test]

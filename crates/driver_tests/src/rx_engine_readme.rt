@@ -28,7 +28,10 @@ fn the_code_of_the_readme_of_rx_engine(rt: HostRuntime) -> Result<(), Fail> {
     let fate = arrive(&mut engine, &filter, 49_152, &frame);
     let moved = rx_data(&mut engine, &mut ring, control, &mut memory);
     let done = rx_done(&mut engine, &mut memory);
-    assert!(rt; fate == Fate::Stored && moved == Data::Moved { low: false } && done == Done::Done);
+    let half_offered = false;
+    assert!(rt;
+        fate == Fate::Stored && moved == Data::Moved { half_offered } && done == Done::Done
+    );
     let status = memory.view(0x80C, 1); // DD and EOP
     assert!(rt; memory.view(0, 60) == Ok(frame.as_slice()) && status == Ok([0x03].as_slice()));
     Ok(())

@@ -132,10 +132,10 @@ finished-most h world stands none =
 -- A slot is offered: at most five slots are finished, the driver has at least 8 slots and 8 buffers, and it refills the
 -- ring.
 some-offered : (h : HostState) (world : World) → CanBeDrained h world → frames_ended (driver_in h.driver world) ≡ []
-    → world.adapter.receiver.work ≡ None → all_of h.queues ≡ [] → 8 ≤ h.driver.layout.rx → 8 ≤ h.driver.layout.buffers
-    → world.adapter.receive_ring.head ≢ world.adapter.receive_ring.tail
-some-offered h world stands none free empty rings buffers same =
+    → world.adapter.receiver.work ≡ None → all_of h.queues ≡ [] → world.adapter.receive_ring.head ≢ world.adapter.receive_ring.tail
+some-offered h world stands none free empty same =
     let ring = receive_ring world in
+    let allowed = stands.ready.ready.driver_is.allowed in
     let nowhere = length-map (offered_places ring) (address_of ring) in
     let room = ap length (places-none ring same) in
     let slots = slots-counted h world stands in
@@ -145,8 +145,8 @@ some-offered h world stands none free empty rings buffers same =
     (λ (free_none : h.driver.pool ≡ []).
     let all = buffers-counted h world stands in
     let queued : length (buffers_of (all_of h.queues)) ≡ 0 = ap (λ (list : List Received). length (buffers_of list)) empty in
-    absurd (omega (arith, all, ap length free_none, few, queued, buffers)))
-    (λ (full : length h.driver.buffers + 1 ≡ h.driver.layout.rx). absurd (omega (arith, full, few, rings)))
+    absurd (omega (arith, all, ap length free_none, few, queued, allowed.rx.least, allowed.buffers.least)))
+    (λ (full : length h.driver.buffers + 1 ≡ h.driver.layout.rx). absurd (omega (arith, full, few, allowed.rx.least)))
     stands.refilled
 
 holds-none : (h : HostState) (world : World) → count_frames h world ≡ 0 → HoldsNothing h world
@@ -160,12 +160,12 @@ holds-none h world none = record {
 pub nothing-left : (number : ℕ) (a b : List StationState) (h : HostState) → CanBeDrained h (world_at a number) → MovesNone number a b h
     → (world_at a number).adapter.receiver.work ≡ None
     → ¬ (Meet (world_at a number).adapter.causes.recorded (world_at a number).adapter.causes.mask) → all_of h.queues ≡ []
-    → 8 ≤ h.driver.layout.rx → 8 ≤ h.driver.layout.buffers → HoldsNothing h (world_at b number)
-nothing-left number a b h stands moves free quiet empty rings buffers =
+    → HoldsNothing h (world_at b number)
+nothing-left number a b h stands moves free quiet empty =
     let world = world_at a number in
     let o = h.driver.oldest_receive in
     let none = none-ended h world stands quiet in
-    let slot = some-offered h world stands none free empty rings buffers in
+    let slot = some-offered h world stands none free empty in
     let buffer : world.adapter.receiver.buffer ≡ [] =
     is-empty world.adapter.receiver.buffer (λ some. moves.takes.answers (record {
       enabled = stands.enabled;
@@ -205,7 +205,7 @@ steps-fit h world stands adapter =
       (pieces-within engine.buffer adapter.receiver.frames).1,
       held-counted h.driver.oldest_receive world,
       held-at_most h world stands adapter,
-      stands.ready.ready.driver_is.addresses,
+      stands.ready.ready.driver_is.allowed.buffers.most,
     )
 
 none-asked : (d : DriverState) (world : World) → Ready d world → frames_held d.oldest_receive world ≡ [] → count_adapter_steps world ≡ 0

@@ -129,18 +129,18 @@ pub answered : {inside : Inside} {n : NetworkState} {k : ℕ} {h : HostState} {r
 answered {n = n} {k} {most = most} {after = after} found here ready adapter was rx_is most_is wide_is begins within sending_is holding_is =
     let is = ap (λ (host : HostState). host.driver.layout.rx) here.is in
     let tx = sending-at_most ready.ready in
-    let addresses = ready.ready.driver_is.addresses in
+    let allowed = ready.ready.driver_is.allowed in
     record {
       adapter = adapter;
       begins = begins ∙ ap (first_notes k most) was.holding;
       within = within;
       room = omega (arith, most_is, rx_is, is);
-      few = omega (arith, tx, addresses);
+      few = omega (arith, tx, allowed.tx.most);
       sending_is = sending_is
           ∙ ap (λ (list : List (List ℕ)). drop (min (length list) after.put) list) was.sending;
       holding_is = holding_is;
       on_after_is = omega (arith, wide_is, rx_is, is);
-      small = omega (arith, addresses);
+      small = omega (arith, allowed.rx.most);
     }
 
 pub told-back : {O : Type 0} (Holds : O → Type 0) (told told' : O) → told' ≡ told → Holds told → Holds told'

@@ -159,10 +159,6 @@ impl Network {
         ensures ends { result ≡ false → HoldsNothing (nth_host self.new number) (world_at self.new.stations number) }
         ensures hosts { self.new.hosts ≡ self.old.hosts }
     {
-        // The contracts of these calls state bounds of the layout's sizes. From these bounds, the proof derives that at
-        // least one slot is offered.
-        let layout = self.hosts[number].layout();
-        let _sizes = (layout.rx(), layout.buffers());
         matches!(
             self.stations.step(number, StepKind::RxData),
             Outcome::Part | Outcome::Moved

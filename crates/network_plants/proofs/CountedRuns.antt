@@ -1,6 +1,6 @@
 -- Frames taken and bad runs together are at most the slots that were outstanding. Without sockets, each frame taken is counted as
 -- unclaimed.
-use Rattle.std.proofs.Common.{Bool, not, ◌≡◌, ◌≤◌, ◌+◌, ◌∷◌, [], ℕ, List, length, refl, sym, ap, subst, ◌∙◌, length-append, arith}
+use Rattle.std.proofs.Common.{Bool, not, ◌≡◌, ◌≤◌, ◌+◌, [], ℕ, List, length, refl, sym, ap, subst, ◌∙◌, length-append, arith}
 use Rattle.std.specs.List.{All, filter}
 use Rattle.std.proofs.lemmas.List.{length-map}
 use Rattle.std.proofs.lemmas.List.Filters.{length-filter_both}

@@ -111,8 +111,8 @@ fn follow(watched: &mut WatchedAdapter, is_made: bool, most: u16)
     }
 }
 
-/// Whether an access is plain: ticks and events are off, no step is scheduled or drawn, no schedule is played, and the
-/// maximum of `pace` is 0.
+/// Returns whether an access is plain: ticks and events are off, no step is scheduled or drawn, no schedule is played,
+/// and the maximum of `pace` is 0.
 ///
 /// The contract states only what the proofs of the callers use. The tests for steps before an access let the compiler
 /// omit the calls that play these steps.

@@ -49,7 +49,7 @@ pub(crate) fn link_with(number: u32) -> Option<Link>
     Some(Link::After(number as u16))
 }
 
-/// Whether PBA.RXA may have this value: an even number from 2 to 48.
+/// Returns whether PBA.RXA may have this value: an even number from 2 to 48.
 pub(crate) fn is_receive_share(kilobytes: u32) -> bool
     ensures { result ≡ numbers.is_receive_share kilobytes }
 {

@@ -84,7 +84,8 @@ fn report_counts(
     }
 }
 
-/// Sends these frames, writes OUT, and reports the counts.
+/// Sends these frames, writes the received frames to the job's OUT file, and reports the counts. Fails if OUT can't be
+/// opened, if [`drive_adapter`] fails, or as [`report_counts`] does.
 fn drive_frames(rt: &HostRuntime, job: &DriveJob<'_>, frames: &Frames) -> Result<(), Fault> {
     let mut sink = create(rt, job.receive)?;
     let counts = drive_adapter(rt, job, frames, &mut sink)?;

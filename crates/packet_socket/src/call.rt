@@ -1,6 +1,6 @@
 // A call of a host, as a value.
 
-ghost use Rattle.std.specs.Prelude.{◌≡◌, ◌≤◌};
+ghost use Rattle.std.specs.Prelude.{◌≤◌};
 ghost use Rattle.dma_memory.specs.Layout.{size_of};
 ghost use Rattle.bus.specs.Keeping.{Keeps};
 ghost use Rattle.packet_socket.specs.CallEffects.{CallsBy, IsLegalAnswer, KeepsRest, answer_in, call_request};

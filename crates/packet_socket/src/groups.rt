@@ -19,7 +19,8 @@ use bus::Bus;
 
 impl Host {
     /// Joins a multicast group by [`Driver::join`](driver::Driver::join), so that frames to the group pass the receive
-    /// filter.
+    /// filter. If no joined group has the same group number, the call writes one word of the group table; otherwise it
+    /// makes no access.
     ///
     /// # Errors
     ///
@@ -41,14 +42,15 @@ impl Host {
         ensures room { OnOk result (length self.old.driver.groups < MOST_GROUPS) }
         ensures quiet { HasNumber self.old.driver.groups group → bus.new ≡ bus.old }
 
-        // Over a bus that obeys the law.
+        // Over a bus that obeys the law. The call returns no frames and accepts none (the two empty lists).
         ensures joins { CallsOver B.Bus [] [] (host_at bus.old self.old) (host_at bus.new self.new)
             (JoinEffect group result) }
     {
         self.driver.join(bus, group)
     }
 
-    /// Leaves a multicast group by [`Driver::leave`](driver::Driver::leave).
+    /// Leaves a multicast group by [`Driver::leave`](driver::Driver::leave). If no other joined group has the same
+    /// group number, the call writes one word of the group table; otherwise it makes no access.
     ///
     /// # Errors
     ///
@@ -68,7 +70,7 @@ impl Host {
         ensures left { OnOk result (Removes group self.old.driver.groups self.new.driver.groups) }
         ensures quiet { HasNumber self.new.driver.groups group → bus.new ≡ bus.old }
 
-        // Over a bus that obeys the law.
+        // Over a bus that obeys the law. The call returns no frames and accepts none (the two empty lists).
         ensures leaves { CallsOver B.Bus [] [] (host_at bus.old self.old) (host_at bus.new self.new)
             (LeaveEffect group result) }
     {

@@ -1,7 +1,6 @@
 //! The frames of a trace pass through an adapter.
 ghost use Rattle.std.specs.Prelude.{◌≡◌, ◌<◌, ◌≤◌, length, IfOk, IfErr, OnOk, OnErr};
 ghost use Rattle.std.specs.Io.KnownBytes.{Appends, append_known};
-ghost use Rattle.descriptors.specs.Frames.{is_sendable};
 ghost use Rattle.pcap_trace.specs.Devices.{AppendsFront, CountsFailures, Grows};
 ghost use Rattle.pcap_trace.specs.Format.{file_header, packet_of};
 ghost use Rattle.rx_engine.specs.Passing.{Passes};
@@ -14,16 +13,9 @@ use crate::counts::PassCounts;
 use crate::filter::PassFilter;
 use crate::lane::ReceiveLane;
 use crate::pass_error::PassError;
-use descriptors::{LONGEST_SENDABLE, SHORTEST_SENDABLE};
+use descriptors::is_sendable;
 use pcap_trace::{RecordWriter, Sink, Trace, Unit, WriteError};
 use std::alloc::Global;
-
-/// Returns whether a frame can be sent: whether it has 14 to 1,518 bytes.
-fn is_sendable(frame: &[u8]) -> bool
-    ensures { result ≡ is_sendable frame.now }
-{
-    SHORTEST_SENDABLE <= frame.len() && frame.len() <= LONGEST_SENDABLE
-}
 
 /// Writes the frame of the finished descriptor at the driver's slot with this number as time. Then offers the slot's
 /// buffer again.

@@ -1,5 +1,5 @@
 -- The bytes that a source has left after a read, and after two uses.
-use Rattle.std.proofs.Common.{◌++◌, ◌∙◌, ℕ, List, [], Option, Some, None, ap, sym, refl}
+use Rattle.std.proofs.Common.{◌≡◌, ◌<◌, ◌^◌, ◌⊎◌, ◌++◌, ◌∙◌, ℕ, List, [], Option, Some, None, ap, inl, inr, refl, subst, sym}
 use Rattle.std.proofs.lemmas.List.{append-nil, append_assoc}
 use Rattle.std.specs.Io.KnownBytes.{Consumes, Keeps}
 use Rattle.pcap_trace.specs.Devices.{Receives, Uses}
@@ -47,3 +47,10 @@ uses_joined {a = Some xs} {b = Some ys} {c = Some zs} one two = record {
   used = one.used ++ two.used;
   consumes = one.consumes ∙ ap (λ (t : List ℕ). one.used ++ t) two.consumes ∙ sym (append_assoc one.used two.used zs);
 }
+
+-- A source whose limit fits into a u64 before a later read had such a limit at first, if nothing happened before this
+-- read or if this was known.
+pub counted-first : {A B : Type 0} (limit : A → ℕ) {first now : A} {held held' : B}
+    → ((held' ≡ held) × (now ≡ first)) ⊎ (limit first < 2 ^ 64) → limit now < 2 ^ 64 → limit first < 2 ^ 64
+counted-first limit (inl same) now = subst (λ source. limit source < 2 ^ 64) same.1 now
+counted-first limit (inr known) now = known

@@ -1,7 +1,7 @@
 //! A block of the bytes of a source, from which packets are read.
-ghost use Rattle.std.specs.Prelude.{◌≡◌, ◌<◌, ◌≤◌, ◌+◌, ◌++◌, ◌⊎◌, ◌↔◌, [], List, ℕ, length, take, drop, slice_range};
-ghost use Rattle.std.specs.Prelude.{IsTrue, IfOk, OnOk, OnErr, MatchResult};
-ghost use Rattle.std.specs.Io.KnownBytes.{Consumes, IsAtEnd, Keeps, prepend_known};
+ghost use Rattle.std.specs.Prelude.{◌≡◌, ◌<◌, ◌≤◌, ◌+◌, ◌⊎◌, [], List, ℕ, length, take, drop, slice_range};
+ghost use Rattle.std.specs.Prelude.{IfOk, OnOk};
+ghost use Rattle.std.specs.Io.KnownBytes.{Consumes, IsAtEnd};
 ghost use Rattle.pcap_trace.specs.Devices.{CountsFailures, Receives, Uses};
 
 use crate::device::{DeviceError, Source};
@@ -51,6 +51,7 @@ fn read_behind<S: Source>(
     ensures used { Uses (S.left source.old) (S.left source.new) }
     ensures at_end { IfOk result (λ n. n ≡ 0 → IsAtEnd (S.left source.new)) }
     ensures limit { IfOk result (λ n. S.limit source.new + n ≤ S.limit source.old) }
+    ensures counted { S.limit source.old ≤ u64.MAX }
     ensures failures { CountsFailures result (S.failures source.old) (S.failures source.new) }
 {
     let room = CHUNK.min(bytes.len() - end);
@@ -102,6 +103,7 @@ impl Block {
         ensures more { IfOk result (λ n. length self.new ≡ length self.old + n) }
         ensures at_end { IfOk result (λ n. n ≡ 0 → IsAtEnd (S.left source.new)) }
         ensures limit { IfOk result (λ n. S.limit source.new + n ≤ S.limit source.old) }
+        ensures counted { S.limit source.old ≤ u64.MAX }
         ensures failures { CountsFailures result (S.failures source.old) (S.failures source.new) }
     {
         self.bytes.copy_within(self.start..self.end, 0);
@@ -128,6 +130,7 @@ impl Block {
         ensures used { Uses (S.left source.old) (S.left source.new) }
         ensures filled { OnOk result ((want ≤ length self.new) ⊎ IsAtEnd (S.left source.new)) }
         ensures limit { OnOk result (length self.new + S.limit source.new ≤ length self.old + S.limit source.old) }
+        ensures counted { length self.old < want → S.limit source.old ≤ u64.MAX }
         ensures failures { CountsFailures result (S.failures source.old) (S.failures source.new) }
     {
         if want <= self.end - self.start {
@@ -142,10 +145,12 @@ impl Block {
     fn fill_slowly<S: Source>(&mut self, source: &mut S, want: usize) -> Result<(), DeviceError>
         requires countable { S.failures source.old < u64.MAX }
         requires room { want ≤ ROOM }
+        requires missing { length self.old < want }
         ensures received { OnOk result (Receives self.old self.new (S.left source.old) (S.left source.new)) }
         ensures used { Uses (S.left source.old) (S.left source.new) }
         ensures filled { OnOk result ((want ≤ length self.new) ⊎ IsAtEnd (S.left source.new)) }
         ensures limit { OnOk result (length self.new + S.limit source.new ≤ length self.old + S.limit source.old) }
+        ensures counted { S.limit source.old ≤ u64.MAX }
         ensures failures { CountsFailures result (S.failures source.old) (S.failures source.new) }
     {
         while self.held().len() < want {

@@ -33,6 +33,7 @@ pub trait Source {
         ensures count { IfOk result (λ n. n ≤ length into.old) }
         ensures limit { MatchResult result (λ n. limit self.new + n ≤ limit self.old)
             (λ _. limit self.new ≤ limit self.old) }
+        ensures counted { limit self.old ≤ u64.MAX }
         ensures bytes { ReadConsumes (left self.old) (left self.new) result into.new }
         ensures failures { CountsFailures result (failures self.old) (failures self.new) };
 

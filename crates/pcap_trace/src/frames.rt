@@ -1,5 +1,5 @@
 //! Frames in one buffer, one after the other.
-ghost use Rattle.std.specs.Prelude.{◌≡◌, ◌<◌, ◌≤◌, ◌^◌, ◌++◌, ◌∷◌, ◌↔◌, [], List, ℕ, length, sum, IsTrue, OnOk, OnErr};
+ghost use Rattle.std.specs.Prelude.{◌≡◌, ◌<◌, ◌^◌, ◌++◌, ◌∷◌, ◌↔◌, [], List, ℕ, length, sum, IsTrue, OnOk, OnErr};
 ghost use Rattle.std.specs.Iterator.{at_most, YieldsFirstRef};
 ghost use Rattle.pcap_trace.specs.Frames.{cut_into};
 

@@ -51,6 +51,7 @@ fn read_body<T: ByteOrder, S: Source>(
 ) -> Result<Trace, ReadError>
     requires countable { S.failures source.old < u64.MAX }
     requires small { length block.old ≤ 327696 }
+    requires counted { length block.old + S.limit source.old ≤ u64.MAX }
     ensures ok { IfOk result
         (λ t. IfSome (prepend_known block.old (S.left source.old))
         (λ bytes. IsBody T.number_of bytes t.frames t.skipped (ending_of t.cut))) }
@@ -60,9 +61,6 @@ fn read_body<T: ByteOrder, S: Source>(
     ensures end { OnOk result (IsAtEnd (S.left source.new)) }
     ensures used { Uses (S.left source.old) (S.left source.new) }
 {
-    // The source has fewer than 2^64 bytes left, and each skipped packet takes at least 16 bytes, so `skipped` can't
-    // overflow.
-    let _limit = source.limit();
     let mut frames = Frames::new(alloc);
     let mut skipped = 0;
     'packets: loop {
@@ -79,6 +77,7 @@ fn read_body<T: ByteOrder, S: Source>(
             break;
         }
         if lengths.captured < lengths.original {
+            // Each skipped packet takes at least 16 of fewer than 2^64 bytes, so `skipped` can't overflow.
             skipped += 1;
         } else {
             frames.push(&block.held()[PACKET_HEADER..whole])?;
@@ -101,6 +100,7 @@ fn read_body_in<S: Source>(
 ) -> Result<Trace, ReadError>
     requires countable { S.failures source.old < u64.MAX }
     requires small { length block.old ≤ 327696 }
+    requires counted { length block.old + S.limit source.old ≤ u64.MAX }
     ensures ok { IfOk result
         (λ t. IfSome (prepend_known block.old (S.left source.old))
         (λ bytes. IsBody (number_order order) bytes t.frames t.skipped (ending_of t.cut))) }

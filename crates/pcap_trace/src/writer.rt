@@ -78,7 +78,7 @@ impl RecordWriter {
         Ok(writer)
     }
 
-    /// Begins another trace: only the file header waits. Bytes that waited before are dropped.
+    /// Begins a trace: only the file header waits. Bytes that waited before are dropped.
     pub fn begin(&mut self, unit: Unit)
         ensures { self.new ≡ file_header unit }
     {

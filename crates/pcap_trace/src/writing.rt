@@ -1,5 +1,5 @@
 //! Bytes and whole traces written to a sink.
-ghost use Rattle.std.specs.Prelude.{◌≡◌, ◌<◌, OnOk, OnErr, map};
+ghost use Rattle.std.specs.Prelude.{◌<◌, OnOk, OnErr, map};
 ghost use Rattle.std.specs.Io.KnownBytes.{Appends};
 ghost use Rattle.pcap_trace.specs.Devices.{AppendsFront, CountsFailures};
 ghost use Rattle.pcap_trace.specs.Format.{packet_of, timed, written};

@@ -32,8 +32,8 @@ impl PlayedAdapter {
         self.accesses = self.accesses.saturating_add(1);
     }
 
-    /// Whether ticks are off, no steps are drawn, and no step is scheduled. If so, no step is played before the next
-    /// access.
+    /// Returns whether ticks are off, no steps are drawn, and no step is scheduled. If so, no step is played before the
+    /// next access.
     #[inline(always)]
     fn is_quiet(&self) -> bool
         ensures { result ≡ true →
@@ -153,7 +153,7 @@ impl PlayedAdapter {
         self.write_now(offset, value, observer);
     }
 
-    /// Whether memory contains all of the `count` bytes from an address on.
+    /// Returns whether memory contains all of the `count` bytes from an address on.
     pub fn has_bytes(&self, address: u64, count: u64) -> bool
         ensures { result ≡ has_bytes self.now address count }
     {

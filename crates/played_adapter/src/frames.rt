@@ -83,7 +83,7 @@ impl Frames {
         }
     }
 
-    /// Whether there is no frame.
+    /// Returns whether there is no frame.
     pub fn is_empty(&self) -> bool
         ensures { result ≡ (length self.now == 0) }
     {

@@ -52,7 +52,8 @@ impl PlayedAdapter {
         Some(step)
     }
 
-    /// Plays and removes the scheduled steps that are due before the next access.
+    /// Plays and removes the scheduled steps that are due before the next access, in order. From the front, these are
+    /// the steps before the first step for a later access. Reports each step to the observer.
     pub(crate) fn play_scheduled<O: Observer>(&mut self, observer: &mut O)
         ensures { Tells O.heard observer.old observer.new (InOrder PlaysScheduled (due_in self.old) self.old self.new) }
     {

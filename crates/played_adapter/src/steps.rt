@@ -29,7 +29,7 @@ pub(crate) const CYCLE: [StepKind; 6] = [
     StepKind::PhyTick,
 ];
 
-/// Whether a step with this outcome did something.
+/// Returns whether a step with this outcome did something.
 pub(crate) fn did(outcome: Outcome<()>) -> bool
     ensures { result ≡ outcomes.did outcome }
 {
@@ -67,7 +67,7 @@ impl PlayedAdapter {
         }
     }
 
-    /// Makes the adapter take a step. A frame that the step puts waits on the wire, if frames that are put wait.
+    /// Makes the adapter take a step. If `keeps_put` is set, a frame that the step puts is then on the wire.
     #[inline(always)]
     fn take_step(&mut self, kind: StepKind) -> Outcome<()>
         ensures occurs { Occurs (step_of kind result self.old) self.old.machine.world }
@@ -75,7 +75,7 @@ impl PlayedAdapter {
     {
         let wire_free = self.has_room();
         if self.keeps_put && wire_free && kind == StepKind::TxPut {
-            self.put_oldest();
+            self.copy_next_put();
         }
         self.machine.step(kind, wire_free)
     }

@@ -1,6 +1,5 @@
 -- Whether options of `serve` define the adapter of a job (our choice).
-use Rattle.std.specs.Prelude.{◌≡◌, ◌⊎◌, ◌∷◌, [], Bool, true, false, List, codes, map}
-use Rattle.std.specs.Borrow.{Bor}
+use Rattle.std.specs.Prelude.{◌≡◌, ◌⊎◌, ◌∷◌, [], Bool, true, false, List, codes}
 use Rattle.clap.specs.Words.{Text}
 use Rattle.command_line.specs.Jobs.{IsAskedBy, IsRefusedIn}
 use Rattle.command_line.specs.Shape.{refusals}

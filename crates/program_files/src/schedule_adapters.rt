@@ -7,7 +7,8 @@ ghost use Rattle.text.specs.Words.{texts};
 use command_line::{Job, LineError, ServeJob, line};
 use std::alloc::{AllocError, Global};
 
-/// Returns whether two jobs have the same adapter.
+/// Returns whether two jobs have the same adapter: all options are equal, except that `--seed`, `--schedule` and
+/// `--record` may differ.
 fn is_same_adapter(job: &ServeJob<'_>, other: &ServeJob<'_>) -> bool
     ensures { IsTrue result ↔ spec.HaveSameAdapter job.now other.now }
 {

@@ -82,7 +82,8 @@ fn pass_to_standard_output(
 /// # Errors
 ///
 /// The first action that fails determines the error. IN is opened and read before OUT is opened, so both may be the
-/// same file. If not all frames that pass were written, an existing file OUT keeps its bytes ([`WholeFile`]).
+/// same file. If not all frames that pass were written, an existing file OUT keeps its bytes, unless it is written in
+/// place ([`create_whole`]).
 pub fn run_pass(rt: &HostRuntime, job: &PassJob<'_>) -> Result<(), FileError>
     requires { HasVlanNumber job.now.filter }
 {

@@ -163,7 +163,7 @@ fn open_replaceable<R: Files + AllocGlobal>(
     }
 }
 
-/// Opens an output that is written in place.
+/// Opens or creates an output that is written in place.
 fn create_in_place<R: Files + AllocGlobal>(
     rt: &R,
     path: &str,

@@ -1,7 +1,7 @@
 //! The calls of `PlayedAdapter`, each made twice. The prover knows only the clauses of a call, so these determine what
 //! is compared. If a call has an observer, both observers are told the same list.
 
-ghost use Rattle.std.specs.Prelude.{◌≡◌, List, true};
+ghost use Rattle.std.specs.Prelude.{◌≡◌, List};
 ghost use Rattle.played_adapter.specs.Told.{Told};
 
 use adapter::{Fate, Outcome, StepKind};

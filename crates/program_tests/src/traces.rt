@@ -1,5 +1,5 @@
 //! Traces over the system's readers and writers, without memory, and with the greatest counts.
-ghost use Rattle.std.specs.Prelude.{◌≡◌, ◌<◌};
+ghost use Rattle.std.specs.Prelude.{◌<◌};
 
 use descriptors::Frame;
 use pcap_bench::{Frames, PassCounts, print_pass, show};

@@ -1,6 +1,6 @@
 // Fields of several bits.
 
-ghost use Rattle.std.specs.Prelude.{◌≡◌, ◌<◌, ◌+◌};
+ghost use Rattle.std.specs.Prelude.{◌≡◌, ◌<◌};
 ghost use Rattle.registers.specs.Bits.{field};
 
 /// Returns the number in two neighbouring bits. `lowest` is the place of the lower bit.

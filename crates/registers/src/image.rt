@@ -1,4 +1,4 @@
-ghost use Rattle.std.specs.Prelude.{◌≡◌, ◌+◌, ◌*◌, ◌%◌, ◌↔◌, IsTrue, length, sum, ◌≤◌};
+ghost use Rattle.std.specs.Prelude.{◌≡◌, ◌*◌, ◌%◌, ◌↔◌, IsTrue, length, sum, ◌≤◌};
 ghost use Rattle.registers.specs.Image.{HasRightSum, address_bytes, image_with, word_at};
 
 use std::marker::Model;

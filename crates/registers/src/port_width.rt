@@ -40,21 +40,21 @@ impl PortWidth {
     /// Returns the bytes of this width in a dword from byte `first` on, as a number. The bytes must be inside the
     /// dword.
     #[tactic(auto, using(crate::proofs::Lanes::masked))]
-    pub(crate) fn bytes_of(self, word: u32, first: usize) -> u32
+    pub(crate) fn bytes_of(self, dword: u32, first: usize) -> u32
         requires { first + width_size self ≤ 4 }
-        ensures { result ≡ number_from first self word }
+        ensures { result ≡ number_from first self dword }
     {
-        word >> (8 * first) & self.ones()
+        dword >> (8 * first) & self.ones()
     }
 
-    /// Returns `word`, in which the bytes of this width from byte `first` on are replaced by the low bytes of `value`.
+    /// Returns `dword`, in which the bytes of this width from byte `first` on are replaced by the low bytes of `value`.
     /// The replaced bytes must be inside the dword.
-    pub(crate) fn replaced_in(self, word: u32, first: usize, value: u32) -> u32
+    pub(crate) fn replaced_in(self, dword: u32, first: usize, value: u32) -> u32
         requires { first + width_size self ≤ 4 }
-        ensures { result ≡ with_number_from first self value word }
+        ensures { result ≡ with_number_from first self value dword }
     {
         let size = self.size();
-        let mut bytes = word.to_le_bytes();
+        let mut bytes = dword.to_le_bytes();
         bytes[first..first + size].copy_from_slice(&value.to_le_bytes()[..size]);
         u32::from_le_bytes(bytes)
     }

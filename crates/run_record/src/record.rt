@@ -1,6 +1,6 @@
 //! The record of a run: counts for each host, frames that sockets returned or adapters put, numbers of refused calls,
 //! and lines.
-ghost use Rattle.std.specs.Prelude.{◌≡◌, ◌≤◌, ◌++◌, ◌∷◌, [], ℕ, List, IfOk, OnOk, length, map, replicate};
+ghost use Rattle.std.specs.Prelude.{◌≡◌, ◌≤◌, ◌∷◌, [], ℕ, List, IfOk, OnOk, length, map, replicate};
 ghost use Rattle.adapter.specs.Outcomes.{with_frame};
 ghost use Rattle.host_calls.specs.Happenings.{tick_host, outcome_happenings};
 ghost use Rattle.network_plan.specs.Answers.{answer_with};
@@ -91,7 +91,8 @@ fn give_up(hosts: &mut [Tally], host: usize, sending: u64, holding: u64)
     }
 }
 
-/// Counts the passage in an outcome at a host, if there is a passage and the host exists.
+/// Counts what happened to the frame of an outcome ([`Passage`]) at a host, if the outcome is counted and the host
+/// exists. The outcome contains no frame, so the clause holds for each frame.
 #[tactic(auto, using(crate::proofs::Noting::told_passage, crate::proofs::Noting::told_nothing))]
 #[inline(always)]
 fn note_outcome(hosts: &mut [Tally], host: usize, outcome: &Outcome<()>)

@@ -77,8 +77,8 @@ pub record MovesApart (control : ℕ) (ring : Ring) (engine : Receiver) (memory 
 -- If a data step moved a piece, the step meets `MovesApart`. If it moved no piece, nothing is required.
 abbrev pub MovesBy : Data → ℕ → Ring → Receiver → List ℕ → Type 0
 MovesBy answers.Nothing control ring engine memory = Unit {0}
-MovesBy (answers.Part low) control ring engine memory = MovesApart control ring engine memory false
-MovesBy (answers.Moved low) control ring engine memory = MovesApart control ring engine memory true
+MovesBy (answers.Part half) control ring engine memory = MovesApart control ring engine memory false
+MovesBy (answers.Moved half) control ring engine memory = MovesApart control ring engine memory true
 MovesBy answers.Fault control ring engine memory = Unit {0}
 
 -- If `HasBegun` and `MovesBy` hold, a data step doesn't change the frames held, and `HasBegun` holds after the step. The pieces in finished

@@ -1,5 +1,5 @@
 -- Lemmas about `AreShort`: lists of pieces whose frames have at most 1,518 bytes. Other crates use these lemmas, too.
-use Rattle.std.proofs.Common.{suc, zero, true, Bool, slice_index_or, ◌≡◌, ◌≤◌, ◌++◌, ◌∷◌, [], ℕ, List, All, length, arith, refl, ap, subst}
+use Rattle.std.proofs.Common.{suc, zero, true, Bool, slice_index_or, ◌≡◌, ◌≤◌, ◌++◌, ◌∷◌, [], ℕ, List, All, length, arith, ap, subst}
 use Rattle.std.proofs.lemmas.List.{length-append}
 use Rattle.rx_engine.specs.Pieces.{Piece, begun_from, frames_from}
 use Rattle.rx_engine.specs.Pieces.Piece.{Last, Part}

@@ -104,7 +104,7 @@ held-after_data control ring engine memory finished Fault begun moves = record {
   frames = sym (append-nil (held memory finished engine));
   begun = begun;
 }
-held-after_data control ring engine memory finished (Part low) begun step =
+held-after_data control ring engine memory finished (Part half) begun step =
     let frame = oldest engine.buffer in
     let size = buffer_bytes control in
     let piece = next_piece control engine in
@@ -122,7 +122,7 @@ held-after_data control ring engine memory finished (Part low) begun step =
           ap begun_of there ∙ part-begun finished frame engine.moved size before
           ∙ ap (λ (n : ℕ). take (engine.moved + n) frame) (sym (piece-full size engine.moved frame more));
     }
-held-after_data control ring engine memory finished (Moved low) begun step =
+held-after_data control ring engine memory finished (Moved half) begun step =
     let frame = oldest engine.buffer in
     let piece = next_piece control engine in
     let rest = drop 1 engine.buffer in

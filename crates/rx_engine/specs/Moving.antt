@@ -58,29 +58,29 @@ abbrev pub is_half_offered : Ring → Bool
 is_half_offered ring = 2 * distance_of ring ring.head ring.tail == count_of ring
 
 -- The answer of a step that moved a piece: `Moved` if the frame ends in the piece, and `Part` otherwise.
-abbrev pub moved_answer : (ends low : Bool) → Data
-moved_answer true low = Moved low
-moved_answer false low = Part low
+abbrev pub moved_answer : (ends half : Bool) → Data
+moved_answer true half = Moved half
+moved_answer false half = Part half
 
 -- The step moved a piece, and more pieces of its frame follow.
 abbrev pub IsPartMoved : Data → Type 0
 IsPartMoved Nothing = ⊥
-IsPartMoved (Part low) = ⊤
-IsPartMoved (Moved low) = ⊥
+IsPartMoved (Part half) = ⊤
+IsPartMoved (Moved half) = ⊥
 IsPartMoved Fault = ⊥
 
 -- The step moved the last piece of a frame.
 abbrev pub IsMoved : Data → Type 0
 IsMoved Nothing = ⊥
-IsMoved (Part low) = ⊥
-IsMoved (Moved low) = ⊤
+IsMoved (Part half) = ⊥
+IsMoved (Moved half) = ⊤
 IsMoved Fault = ⊥
 
--- If the step moved a piece, the fact is true for its `low`: whether exactly half of the ring's descriptors are now offered.
+-- If the step moved a piece, the fact is true for its `half`: whether exactly half of the ring's descriptors are now offered.
 abbrev pub IfMoved : Data → (Bool → Type 0) → Type 0
 IfMoved Nothing fact = ⊤
-IfMoved (Part low) fact = fact low
-IfMoved (Moved low) fact = fact low
+IfMoved (Part half) fact = fact half
+IfMoved (Moved half) fact = fact half
 IfMoved Fault fact = ⊤
 
 -- The next piece as the piece in progress, with the address of the descriptor at the head. The flag is whether the frame ends in the piece.
@@ -98,11 +98,11 @@ begun_with work engine = if work.ends then record engine { buffer = drop 1 engin
 -- moved bytes. `Moved` also removes its frame from the packet buffer. After `Fault`, the data step is stopped. `Nothing` changes nothing.
 abbrev pub engine_after_data : Data → ℕ → Ring → Receiver → Receiver
 engine_after_data Nothing control ring engine = engine
-engine_after_data (Part low) control ring engine = record engine {
+engine_after_data (Part half) control ring engine = record engine {
   moved = engine.moved + length (next_piece control engine);
   work = Some (work_at control ring engine false);
 }
-engine_after_data (Moved low) control ring engine = record engine {
+engine_after_data (Moved half) control ring engine = record engine {
   buffer = drop 1 engine.buffer;
   moved = 0;
   work = Some (work_at control ring engine true);
@@ -112,16 +112,16 @@ engine_after_data Fault control ring engine = record engine { stopped = true }
 -- The ring after a step with this answer: if a piece was moved, the head has advanced by one slot. Otherwise the ring doesn't change.
 abbrev pub ring_after_data : Data → Ring → Ring
 ring_after_data Nothing ring = ring
-ring_after_data (Part low) ring = record ring { head = next_of ring ring.head }
-ring_after_data (Moved low) ring = record ring { head = next_of ring ring.head }
+ring_after_data (Part half) ring = record ring { head = next_of ring ring.head }
+ring_after_data (Moved half) ring = record ring { head = next_of ring ring.head }
 ring_after_data Fault ring = ring
 
 -- The memory after a step with this answer: a piece that was moved is in the buffer that the descriptor at the head points to. Otherwise
 -- memory doesn't change.
 abbrev pub memory_after_data : Data → ℕ → Ring → Receiver → List ℕ → List ℕ
 memory_after_data Nothing control ring engine memory = memory
-memory_after_data (Part low) control ring engine memory = with_bytes memory (named_address memory (address_of ring ring.head))
+memory_after_data (Part half) control ring engine memory = with_bytes memory (named_address memory (address_of ring ring.head))
     (next_piece control engine)
-memory_after_data (Moved low) control ring engine memory = with_bytes memory (named_address memory (address_of ring ring.head))
+memory_after_data (Moved half) control ring engine memory = with_bytes memory (named_address memory (address_of ring ring.head))
     (next_piece control engine)
 memory_after_data Fault control ring engine memory = memory

@@ -1,7 +1,6 @@
 // Ethernet addresses, their register words and group numbers, and the parts of a frame that the filter reads.
 
-ghost use Rattle.std.specs.Prelude.{◌≡◌, ◌+◌, ◌*◌, ◌/◌, ◌%◌, ◌^◌, ◌≤◌, ◌<◌, ◌↔◌, IsTrue, length, slice_index};
-ghost use Rattle.registers.specs.Bits.{HasBit};
+ghost use Rattle.std.specs.Prelude.{◌≡◌, ◌+◌, ◌*◌, ◌%◌, ◌≤◌, ◌<◌, ◌↔◌, IsTrue, length};
 ghost use Rattle.registers.specs.Places.{alone, rah_av};
 ghost use Rattle.registers.specs.ReceiveControl.{shift_of};
 ghost use Rattle.rx_engine.specs.Addresses.{destination, IsAddress, IsGroup, broadcast, group_number, low_word};

@@ -1,9 +1,7 @@
 // The data step, which writes a piece of a frame to a host's memory.
 
 ghost use Rattle.std.specs.Prelude.{◌≡◌, ◌≤◌, ◌*◌, ◌↔◌, length, nat_le, true, false, IsTrue, IsNone, IsSome, IfSome};
-ghost use Rattle.registers.specs.Bits.{HasBit, field};
-ghost use Rattle.registers.specs.ReceiveControl.{buffer_size_of};
-ghost use Rattle.descriptors.specs.Ring.{HasValidIndices, address_of, count_of, distance_of};
+ghost use Rattle.descriptors.specs.Ring.{HasValidIndices, address_of};
 ghost use Rattle.dma_memory.specs.Areas.{ChangesOnly, area_at};
 ghost use Rattle.dma_memory.specs.HostMemory.{LiesIn, with_bytes};
 ghost use Rattle.rx_engine.specs.Descriptors.{named_address};
@@ -27,12 +25,12 @@ pub enum Data {
     Part {
         /// Whether exactly half of the ring's descriptors are now offered ("13.4.17 Interrupt Cause Read Register",
         /// RXDMT0).
-        low: bool,
+        half_offered: bool,
     },
     /// The last piece of the oldest frame is in memory and in progress.
     Moved {
         /// Whether exactly half of the ring's descriptors are now offered, as for `Part`.
-        low: bool,
+        half_offered: bool,
     },
     /// The engine moved no piece, and moves none until a reset (our choice).
     Fault,
@@ -40,13 +38,13 @@ pub enum Data {
 
 impl Data {
     /// Returns the result of a step that moved a piece. `ends` is whether this piece is the last one of its frame.
-    fn of_piece(ends: bool, low: bool) -> Data
-        ensures { result ≡ moved_answer ends low }
+    fn of_piece(ends: bool, half_offered: bool) -> Data
+        ensures { result ≡ moved_answer ends half_offered }
     {
         if ends {
-            Data::Moved { low }
+            Data::Moved { half_offered }
         } else {
-            Data::Part { low }
+            Data::Part { half_offered }
         }
     }
 }
@@ -80,7 +78,7 @@ pub fn rx_data(
         ↔ (HasFrameToMove control.0 ring.old engine.old
         × CanMove control.0 ring.old memory.old (length (next_piece control.0 engine.old))
         × (is_last control.0 engine.old ≡ true)) }
-    ensures low { IfMoved result (λ low. low ≡ is_half_offered ring.new) }
+    ensures half_offered { IfMoved result (λ half. half ≡ is_half_offered ring.new) }
     ensures engine { engine.new ≡ engine_after_data result control.0 ring.old engine.old }
     ensures ring { ring.new ≡ ring_after_data result ring.old }
     ensures memory { memory.new ≡ memory_after_data result control.0 ring.old engine.old memory.old }
@@ -171,9 +169,7 @@ fn store_piece(ring: &Ring, control: Rctl, memory: &mut HostMemory, piece: &[u8]
     if !ring.has_valid_indices() || control.extends_buffer_size() {
         return None;
     }
-    // A law, for the proof of `can`: the number of bytes of memory fits into 64 bits.
-    let _size = memory.size();
-    let descriptor = ring.descriptor(ring.head)?;
+    let descriptor = ring.descriptor(ring.head, memory.size())?;
     let buffer = buffer_named_at(memory, descriptor)?;
     if store_in(memory, buffer, piece) {
         Some(descriptor)

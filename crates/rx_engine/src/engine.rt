@@ -1,7 +1,7 @@
 // The state of the receive engine.
 
 ghost use Rattle.std.specs.Prelude.{◌≡◌, ◌≢◌, ◌+◌, ◌<◌, ◌≤◌, ◌↔◌, [], ◌∷◌, ◌++◌, true, false, drop, fold, length};
-ghost use Rattle.std.specs.Prelude.{All, IsSome, Some, option_copied, slice_get};
+ghost use Rattle.std.specs.Prelude.{IsSome, Some, option_copied, slice_get};
 ghost use Rattle.std.specs.Prelude.{IfSome, IfOk};
 ghost use Rattle.rx_engine.specs.Hashed.{work_writes};
 ghost use Rattle.descriptors.specs.Frames.{IsLegal};

@@ -3,7 +3,6 @@
 ghost use Rattle.std.specs.Prelude.{◌≡◌, ◌<◌, ◌≤◌, ◌↔◌, IsTrue, bit_and, fold, length, replicate};
 ghost use Rattle.std.specs.Prelude.{slice_index, slice_set};
 ghost use Rattle.registers.specs.Kept.{receive_control_mask};
-ghost use Rattle.rx_engine.specs.Addresses.{destination};
 ghost use Rattle.rx_engine.specs.Hashed.{filter_writes};
 ghost use Rattle.rx_engine.specs.Passing.{AcceptsAddress, AcceptsGroup, AcceptsVlan, Passes};
 ghost use Rattle.rx_engine.specs.Registers.{filter_of, address_high_mask};

@@ -1,6 +1,6 @@
 // The frames in the finished slots of a receive ring, and the bytes of the piece in progress.
 
-ghost use Rattle.std.specs.Prelude.{◌≡◌, ◌≤◌, ◌<◌, ◌+◌, ◌++◌, ◌∷◌, ◌⊎◌, [], All, IfSome, IfNone, IsSome};
+ghost use Rattle.std.specs.Prelude.{◌≡◌, ◌≤◌, ◌<◌, ◌+◌, ◌++◌, ◌⊎◌, [], All, IfSome, IfNone, IsSome};
 ghost use Rattle.std.specs.Prelude.{length, vec_capacity, true, false};
 ghost use Rattle.dma_memory.specs.HostMemory.{LiesIn, bytes_at};
 ghost use Rattle.descriptors.specs.Ring.{address_of, count_of};
@@ -11,7 +11,7 @@ ghost use Rattle.descriptors.specs.RxStatus.{dd, eop, status_bits};
 ghost use Rattle.rx_engine.specs.Pieces.{begun_from, frames_from};
 ghost use Rattle.rx_engine.specs.FinishedSlots.{LiesWhole, NamesMemory, finished_in, named};
 ghost use Rattle.rx_engine.specs.JoinedPieces.{AreShort, piece_alone};
-ghost use Rattle.rx_engine.specs.Slots.{is_done, outstanding, done_slots};
+ghost use Rattle.rx_engine.specs.Slots.{outstanding, done_slots};
 
 use crate::engine::Work;
 use arrayvec::ArrayVec;
@@ -63,9 +63,8 @@ fn descriptor_in(memory: &HostMemory, ring: &Ring, place: u16) -> Option<RxDesc>
     ensures there { IsSome result }
     ensures value { IfSome result (λ desc. desc ≡ descriptor_at memory.now (address_of ring.now place)) }
 {
-    // A law, for the proof of `there`: the number of bytes of memory fits into 64 bits.
-    let _size = memory.size();
-    let bytes = memory.view(ring.descriptor(place)?, RX_DESC_BYTES).ok()?;
+    let address = ring.descriptor(place, memory.size())?;
+    let bytes = memory.view(address, RX_DESC_BYTES).ok()?;
     Some(RxDesc::from_bytes(bytes.first_chunk()?))
 }
 

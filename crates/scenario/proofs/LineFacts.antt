@@ -8,7 +8,7 @@ use Rattle.stations.specs.declared.tick.Tick.{Tick}
 use Rattle.scenario.specs.Answers.{IsAnswerToLine, IsFaulty, IsFaultyCall, IsGood}
 use Rattle.scenario.specs.HostOptions.{AreCounted, AreRead, uses_in}
 use Rattle.scenario.specs.Meanings.{CanAsk, HasHostWords, HasValues, IsRoomFor, after_line, call_words, changed_first}
-use Rattle.scenario.specs.Meanings.{number_of, option_words, said_in_call, saying, size_of_call, tick_words, ticks_in, with_item}
+use Rattle.scenario.specs.Meanings.{number_of, option_words, said_in_call, size_of_call, tick_words, ticks_in, with_command, with_item}
 use Rattle.scenario.specs.SoFar.{Host, Said, SoFar, has_name, hosts_of, said_of}
 use Rattle.scenario.specs.declared.command.Command.{Command}
 use Rattle.scenario.specs.Spellings.{IsAddressText}
@@ -110,9 +110,9 @@ call-faulty kind before words call ticks hosts name f hosts_are name_is call_is 
 pub call-said : (kind : CallKind) (before : SoFar) (words call tick_texts : List Text) (hosts : List Host) (name : Text) (said : Said)
     (host : ℕ) (ticks : List Tick) → hosts ≡ before.hosts → name ≡ word 1 call → call ≡ call_words words → tick_texts ≡ tick_words words
     → said ≡ said_in_call kind call host ticks → host ≡ number_of name hosts → ticks ≡ ticks_in hosts tick_texts
-    → saying said before ≡ after_line (line.Call kind) before words
+    → with_command said before ≡ after_line (line.Call kind) before words
 call-said kind before words call tick_texts hosts name said host ticks hosts_are name_is call_is texts_are said_is host_is ticks_are =
-    ap (λ (s : Said). saying s before) (said_is
+    ap (λ (s : Said). with_command s before) (said_is
     ∙ ap (λ (c : List Text). said_in_call kind c host ticks) call_is
     ∙ ap (λ (h : ℕ). said_in_call kind (call_words words) h ticks) (host_is
     ∙ ap (λ (h : List Host). number_of name h) hosts_are

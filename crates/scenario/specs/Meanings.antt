@@ -225,8 +225,8 @@ abbrev pub changing : Text → (Host → Host) → SoFar → SoFar
 changing name change before = with_hosts (changed_first (has_name name) change before.hosts) before
 
 -- the lines read so far, with one more command
-abbrev pub saying : Said → SoFar → SoFar
-saying said before = record before { commands = before.commands ++ said ∷ [] }
+abbrev pub with_command : Said → SoFar → SoFar
+with_command said before = record before { commands = before.commands ++ said ∷ [] }
 
 -- the event of a call of this kind with these words, at a host, during which these ticks are played
 abbrev pub said_in_call : CallKind → (words : List Text) (host : ℕ) (ticks : List Tick) → Said
@@ -251,13 +251,13 @@ abbrev pub after_line : LineKind → SoFar → List Text → SoFar
 after_line line.Host before words = with_hosts (before.hosts ++ host_of_words words ∷ []) before
 after_line (line.Item one) before words = changing (word 1 words) (with_item (item_in one (word 2 words))) before
 after_line (line.Call one) before words =
-    saying
+    with_command
     (said_in_call one (call_words words) (number_of (word 1 (call_words words)) before.hosts)
     (ticks_in before.hosts (tick_words words)))
     before
-after_line line.Tick before words = saying (Ticks (unwrap_or (tick_named before.hosts (word 1 words)) tick.Go)) before
+after_line line.Tick before words = with_command (Ticks (unwrap_or (tick_named before.hosts (word 1 words)) tick.Go)) before
 after_line line.Feed before words =
-    let fed = saying (Feeds (number_of (word 1 words) before.hosts) (length before.traces)) before in
+    let fed = with_command (Feeds (number_of (word 1 words) before.hosts) (length before.traces)) before in
     record fed { traces = before.traces ++ word 2 words ∷ [] }
-after_line line.Auto before words = saying (Draws (number_read (word 1 words)) (number_read (word 2 words))) before
-after_line line.Drain before words = saying (Drains (number_of (word 1 words) before.hosts)) before
+after_line line.Auto before words = with_command (Draws (number_read (word 1 words)) (number_read (word 2 words))) before
+after_line line.Drain before words = with_command (Drains (number_of (word 1 words) before.hosts)) before

@@ -82,9 +82,9 @@ fn call_of(
     Ok((host, ticks))
 }
 
-/// Appends a command. Fails only if memory is refused.
-fn say(scenario: &mut Scenario, command: Command) -> Result<(), Stop>
-    ensures said { OnOk result (so_far scenario.new ≡ meanings.saying (said_of command) (so_far scenario.old)) }
+/// Appends a command to the scenario's commands. Fails only if memory is refused.
+fn push_command(scenario: &mut Scenario, command: Command) -> Result<(), Stop>
+    ensures said { OnOk result (so_far scenario.new ≡ meanings.with_command (said_of command) (so_far scenario.old)) }
     ensures memory { IfErr result (λ stopped. stopped ≡ stops.Memory) }
 {
     scenario.commands.push(command)?;
@@ -151,7 +151,7 @@ pub(crate) fn read_call(
     }
     let call = asked_of(alloc, kind, words)?;
     let (host, ticks) = call_of(alloc, scenario.hosts(), word_at(words, 1), ticks)?;
-    say(scenario, Command::Call { host, call, ticks })
+    push_command(scenario, Command::Call { host, call, ticks })
 }
 
 /// Reads a line `tick TICK`.
@@ -168,7 +168,7 @@ pub(crate) fn read_tick(scenario: &mut Scenario, words: &[&str]) -> Result<(), S
     let Some(tick) = tick_of(scenario.hosts(), word) else {
         return Err(Stop::Fault(Fault::Name));
     };
-    say(scenario, Command::Tick(tick))
+    push_command(scenario, Command::Tick(tick))
 }
 
 /// Reads a line `feed HOST FILE`.
@@ -184,7 +184,7 @@ pub(crate) fn read_feed(alloc: Global, scenario: &mut Scenario, words: &[&str]) 
     let name = String::from_str(alloc, word_at(words, 2))?;
     let trace = scenario.traces.len();
     scenario.traces.push(name)?;
-    say(scenario, Command::Feed { host, trace })
+    push_command(scenario, Command::Feed { host, trace })
 }
 
 /// Returns the number of events that a word asks to draw, if the word is a decimal number of at most 1,000,000;
@@ -212,7 +212,7 @@ pub(crate) fn read_auto(scenario: &mut Scenario, words: &[&str]) -> Result<(), S
     let Some(start) = number_of(word_at(words, 2)) else {
         return Err(Stop::Fault(Fault::Value));
     };
-    say(scenario, Command::Auto { count, start })
+    push_command(scenario, Command::Auto { count, start })
 }
 
 /// Reads a line `drain HOST`.
@@ -225,5 +225,5 @@ pub(crate) fn read_drain(scenario: &mut Scenario, words: &[&str]) -> Result<(), 
     let Some(host) = scenario.host_named(word_at(words, 1)) else {
         return Err(Stop::Fault(Fault::Name));
     };
-    say(scenario, Command::Drain { host })
+    push_command(scenario, Command::Drain { host })
 }

@@ -1,6 +1,6 @@
 // The options of a `host` line.
 
-ghost use Rattle.std.specs.Prelude.{◌≡◌, ◌∷◌, ◌≤◌, ◌↔◌, All, IfOk, IsTrue, count_by, drop, length};
+ghost use Rattle.std.specs.Prelude.{◌≡◌, ◌∷◌, ◌≤◌, ◌↔◌, IfOk, IsTrue, count_by, drop, length};
 ghost use Rattle.scenario.specs.HostOptions as options;
 ghost use Rattle.scenario.specs.Words.{texts};
 

@@ -14,7 +14,7 @@ use network_plan::Plan;
 use std::alloc::Global;
 
 /// Returns the index of the first line feed, or `None` if there is no line feed.
-fn first_feed(text: &[u8]) -> Option<usize>
+fn first_line_feed(text: &[u8]) -> Option<usize>
     ensures place { result ≡ position is_line_feed text.now }
     ensures within { IfSome result (λ place. place < length text.now) }
 {
@@ -27,7 +27,7 @@ fn line_end(text: &[u8]) -> usize
     ensures end { result ≡ position_or_len is_line_feed text.now }
     ensures within { result ≤ length text.now }
 {
-    match first_feed(text) {
+    match first_line_feed(text) {
         Some(end) => end,
         None => text.len(),
     }

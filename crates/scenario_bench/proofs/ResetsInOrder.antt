@@ -91,7 +91,7 @@ event-in_order a (event.Reset host ticks) reply b runs = elim (slice_get_cases a
       let h = there.0 in
       let stood = runs.stood.each host h there.2 in
       inr (host-tells host ticks.now reply runs.steps h now.0 a.stations b.stations (runs.answer h now.0 there.2 now.1) runs.go.leads
-      runs.replied.played runs.replied.outcomes (few-slots h.driver.layout stood.ready.ready.driver_is.addresses))
+      runs.replied.played runs.replied.outcomes (few-slots stood.ready.ready.driver_is.allowed))
   | inr past ↦
       let absent = runs.replied.no_host.1 past.0 in
       inl (

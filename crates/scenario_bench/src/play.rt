@@ -1,11 +1,11 @@
 //! Plays a scenario.
-ghost use Rattle.std.specs.Prelude.{◌≡◌, ◌<◌, ◌≤◌, ◌-◌, ◌∷◌, [], ℕ, All, Bool, Some, length, map, slice_get};
+ghost use Rattle.std.specs.Prelude.{◌≡◌, ◌<◌, ◌≤◌, ◌-◌, ◌∷◌, [], All, Bool, Some, length, map, slice_get, unwrap_or};
 ghost use Rattle.std.specs.Prelude.{IfErr, IfOk, OnErr, OnOk};
 ghost use Rattle.std.specs.List.{flat_map};
 ghost use Rattle.packet_socket.specs.HostState.{HostState};
 ghost use Rattle.scenario.specs.SoFar.{Drains, command_of_event, hosts_of, said_of};
-ghost use Rattle.scenario_bench.specs.Benches.{AreAllWritten, Benches, Stops, StopsWriting};
-ghost use Rattle.scenario_bench.specs.Benches.{IsFailedSink, scenario_events, sinks_of};
+ghost use Rattle.scenario_bench.specs.Benches.{AreAllWritten, Benches, IsFailedSink, Stops, StopsWriting};
+ghost use Rattle.scenario_bench.specs.Benches.{scenario_events, sinks_of};
 ghost use Rattle.scenario_bench.specs.EventLists as lists;
 ghost use Rattle.run_record.specs.EventLogView.{plan_name};
 ghost use Rattle.scenario_bench.specs.Given.{sockets_from};
@@ -17,8 +17,8 @@ ghost use Rattle.scenario_bench.specs.PlayedEvents.{socket_texts_in, wire_texts_
 ghost use Rattle.scenario_bench.specs.WireLists.{wire_names};
 ghost use Rattle.scenario_bench.specs.Summaries.{asked_after};
 ghost use Rattle.run_record.specs.RunLogs.{new_log};
-ghost use Rattle.run_record.specs.Puts.{names_in};
 ghost use Rattle.run_record.specs.Tallies.{grown_by};
+ghost use Rattle.run_record.specs.Traces.{texts_in};
 ghost use Rattle.run_record.specs.declared.tally.Tally.{Tally};
 ghost use Rattle.stations.specs.Stations.{world_at};
 ghost use Rattle.host_calls.specs.Networks.{IsHost};
@@ -29,7 +29,7 @@ use crate::socket_list::sockets;
 use crate::summary::{HostSummary, Summary};
 use crate::wire_list::wires;
 use network_plan::{Event, HostPlan, Plan, Stopped};
-use pcap_trace::{RecordWriter, Sink, Trace, Unit};
+use pcap_trace::{RecordWriter, Sink, Trace, Unit, WriteError};
 use rand_core::SeedableRng;
 use rand_core::utils::NextWord;
 use rand_pcg::Lcg64Xsh32;
@@ -343,6 +343,37 @@ impl Play {
         Ok(hosts)
     }
 
+    /// Writes the traces of sockets, and then the traces of wires, through a writer.
+    fn write_through<W: Sink>(
+        &self,
+        of_sockets: &Traces<'_>,
+        of_wires: &Traces<'_>,
+        writer: &mut RecordWriter,
+        unit: Unit,
+        sinks: &mut [W],
+        wire_sinks: &mut [W],
+    ) -> Result<(), WriteError>
+        requires sinks { length sinks.old ≡ length (texts_in of_sockets.now self.now.record.returned) }
+        requires wires { length wire_sinks.old ≤ length (texts_in of_wires.now (unwrap_or self.now.record.puts [])) }
+        requires recorded { AreRecorded (length wire_sinks.old) self.now.record.puts }
+        requires countable { All (λ (sink : W). W.failures sink < u64.MAX) sinks.old }
+        requires wires_countable { All (λ (sink : W). W.failures sink < u64.MAX) wire_sinks.old }
+        ensures ok { OnOk result
+            (AreAllWritten unit (texts_in of_sockets.now self.now.record.returned)
+            (texts_in of_wires.now (unwrap_or self.now.record.puts []))
+            (sinks_of W.taken W.failures sinks.old sinks.new wire_sinks.old wire_sinks.new)) }
+        ensures err { OnErr result
+            (IsFailedSink unit (texts_in of_sockets.now self.now.record.returned)
+            (texts_in of_wires.now (unwrap_or self.now.record.puts []))
+            (sinks_of W.taken W.failures sinks.old sinks.new wire_sinks.old wire_sinks.new)) }
+    {
+        self.record.returned.write(of_sockets, writer, unit, sinks)?;
+        match &self.record.puts {
+            Some(puts) => puts.write(of_wires, writer, unit, wire_sinks),
+            None => Ok(()),
+        }
+    }
+
     /// Writes to each sink the frames of its socket, and then to each of `wire_sinks` the frames that were put on its
     /// wire.
     fn write<W: Sink>(
@@ -372,13 +403,8 @@ impl Play {
         let names = wires(alloc, plans)?;
         let mut writer = RecordWriter::new(alloc, unit)?;
         let of_sockets = Traces::Sockets(sockets.as_slice());
-        let returned = &self.record.returned;
-        returned.write(&of_sockets, &mut writer, unit, sinks)?;
-        let Some(puts) = &self.record.puts else {
-            return Ok(());
-        };
         let of_wires = Traces::Wires(plans, names.as_slice());
-        puts.write(&of_wires, &mut writer, unit, wire_sinks)?;
+        self.write_through(&of_sockets, &of_wires, &mut writer, unit, sinks, wire_sinks)?;
         Ok(())
     }
 
@@ -427,8 +453,8 @@ impl Play {
 /// After each of these errors except `Write`, nothing was written.
 ///
 /// - [`Plan`](BenchError::Plan) if the plan is refused (E40 to E46).
-/// - [`Run`](BenchError::Run) (E47) if memory is refused before an event. `done` is the number of events and drains
-///   that were done before this event; it saturates at the greatest `u64`.
+/// - [`Run`](BenchError::Run) (E47) if memory is refused before an event. The error's field `done` is the number of
+///   events and drains that were done before this event; it saturates at the greatest `u64`.
 /// - [`Memory`](BenchError::Memory) (E57) if memory is refused at another place.
 /// - [`Write`](BenchError::Write) (E67) if a sink failed. The sinks before this sink have their whole traces. This sink
 ///   has a beginning of its own trace, and the sinks after it are unchanged. The sinks of sockets are written before

@@ -2,7 +2,7 @@
 // results as numbers.
 
 ghost use Rattle.std.specs.List.{Any};
-ghost use Rattle.std.specs.Prelude.{◌≡◌, ◌<◌, ◌≤◌, ◌∷◌, ◌⊎◌, [], ℕ, None, Some, length, slice_index_or};
+ghost use Rattle.std.specs.Prelude.{◌≡◌, ◌≢◌, ◌<◌, ◌≤◌, ◌∷◌, ◌⊎◌, [], ℕ, None, Some, length, slice_index_or};
 ghost use Rattle.schedule_search.specs.Orders.{next_path};
 ghost use Rattle.schedule_search.specs.Searches.{AreTrueEntries, ContinuationsPass, IsKnownBy, IsSearch};
 ghost use Rattle.schedule_search.specs.Searches.{first_choice, left_of, path_of, run_in};
@@ -43,7 +43,9 @@ pub extern "C" fn schedule_search_begin(
     *search = crate::begin(depth, cost, known);
 }
 
-/// The run of the path is at this place. Returns [`GOES`], [`PASSES`] or [`FULL`].
+/// Meets the place that the run of the path reached. If the path is full, returns [`FULL`]. Else, if the state of the
+/// place is known, returns [`PASSES`]. In both cases, nothing changes. Otherwise appends the first choice at this place
+/// to the path, and returns [`GOES`].
 #[unsafe(no_mangle)]
 pub extern "C" fn schedule_search_meet(
     search: &mut Search,
@@ -60,12 +62,13 @@ pub extern "C" fn schedule_search_meet(
         ≡ first_choice search.old.cost (left_of search.old.cost search.old.depth (path_of search.old.count path.old))
         place.now
         ∷ path_of search.old.count path.old }
-    ensures same { result ≡ PASSES → (search.new ≡ search.old) × (path.new ≡ path.old) }
+    ensures same { result ≢ GOES → (search.new ≡ search.old) × (path.new ≡ path.old) }
     ensures full { result ≡ FULL → length path.old ≤ search.old.count }
     ensures known { result ≡ PASSES → Any (λ entry. IsKnownBy entry place.now.key
         (left_of search.old.cost search.old.depth (path_of search.old.count path.old))) known.now }
     ensures answers { result ≤ 2 }
-    ensures kept { (search.new.depth ≡ search.old.depth) × (search.new.cost ≡ search.old.cost) }
+    ensures kept { (search.new.depth ≡ search.old.depth) × (search.new.cost ≡ search.old.cost)
+        × (search.new.failing ≡ search.old.failing) }
 {
     match crate::meet(search, path, known, *place) {
         Met::Goes => GOES,

@@ -29,8 +29,8 @@ pub fn find(known: &[Known], key: Key) -> usize
     size
 }
 
-/// Whether an entry states that from the state with this key, each schedule whose deviations cost at most `left`
-/// passes. Returns `false` if `key.one` is 0. The contract states only what `true` means.
+/// Returns whether an entry states that from the state with this key, each schedule whose deviations cost at most
+/// `left` passes. Returns `false` if `key.one` is 0. The contract states only what `true` means.
 pub(crate) fn is_known(entry: Known, key: Key, left: u32) -> bool
     ensures { result ≡ true → IsKnownBy entry key left }
 {

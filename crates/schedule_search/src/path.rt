@@ -82,8 +82,7 @@ pub(crate) fn next(choice: Choice) -> Choice
     ensures { result ≡ next_choice choice }
 {
     Choice {
-        place: choice.place,
-        left: choice.left,
         taken: choice.taken + 1,
+        ..choice
     }
 }

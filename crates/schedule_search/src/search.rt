@@ -1,7 +1,7 @@
 //! A search, and the calls with which a caller makes the search's steps.
 
 ghost use Rattle.std.specs.List.{Any};
-ghost use Rattle.std.specs.Prelude.{◌≡◌, ◌<◌, ◌≤◌, ◌∷◌, [], List, None, Some, length};
+ghost use Rattle.std.specs.Prelude.{◌≡◌, ◌≢◌, ◌<◌, ◌≤◌, ◌∷◌, [], List, None, Some, length};
 ghost use Rattle.schedule_search.specs.Orders.{next_path};
 ghost use Rattle.schedule_search.specs.Searches.{ContinuationsPass, IsKnownBy, IsSearch, first_choice, left_of};
 ghost use Rattle.schedule_search.specs.Searches.{path_of, run_in};
@@ -65,7 +65,9 @@ pub fn begin(depth: u32, cost: u32, known: &mut [Known]) -> Search
     }
 }
 
-/// The run of the path is at this place. Returns what the caller does there.
+/// Meets the place that the run of the path reached. If the path is full, returns [`Full`](Met::Full). Else, if the
+/// state of the place is known, returns [`Passes`](Met::Passes). In both cases, nothing changes. Otherwise appends the
+/// first choice at this place to the path, and returns [`Goes`](Met::Goes).
 pub fn meet(search: &mut Search, path: &mut [Choice], known: &[Known], place: Place) -> Met
     ensures search { (test : Test) → IsSearch test search.old path.old known.now
         → test.at (run_in search.old path.old) ≡ Some place → IsSearch test search.new path.new known.now }
@@ -76,11 +78,12 @@ pub fn meet(search: &mut Search, path: &mut [Choice], known: &[Known], place: Pl
         ≡ first_choice search.old.cost (left_of search.old.cost search.old.depth (path_of search.old.count path.old))
         place
         ∷ path_of search.old.count path.old }
-    ensures same { result ≡ Met.Passes → (search.new ≡ search.old) × (path.new ≡ path.old) }
+    ensures same { result ≢ Met.Goes → (search.new ≡ search.old) × (path.new ≡ path.old) }
     ensures full { result ≡ Met.Full → length path.old ≤ search.old.count }
     ensures known { result ≡ Met.Passes → Any (λ entry. IsKnownBy entry place.key
         (left_of search.old.cost search.old.depth (path_of search.old.count path.old))) known.now }
-    ensures kept { (search.new.depth ≡ search.old.depth) × (search.new.cost ≡ search.old.cost) }
+    ensures kept { (search.new.depth ≡ search.old.depth) × (search.new.cost ≡ search.old.cost)
+        × (search.new.failing ≡ search.old.failing) }
 {
     if search.count >= path.len() {
         return Met::Full;

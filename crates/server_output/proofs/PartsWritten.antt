@@ -1,5 +1,5 @@
 -- Beginnings of texts that were written before the server stopped.
-use Rattle.std.proofs.Common.{◌≡◌, ◌++◌, ◌+◌, ◌≤◌, ◌∙◌, ℕ, List, [], Option, Some, None}
+use Rattle.std.proofs.Common.{◌≡◌, ◌++◌, ◌+◌, ◌≤◌, ◌∙◌, ℕ, List, [], Option}
 use Rattle.std.proofs.Common.{append_assoc, ap, drop, length, refl, subst, sym, take}
 use Rattle.std.proofs.lemmas.List.{append-nil, drop-drop, take-append-drop}
 use lib.ListN.{drop_of_length-le}

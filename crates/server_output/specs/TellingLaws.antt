@@ -2,7 +2,7 @@
 use Rattle.std.proofs.Common.{◌≡◌, ◌++◌, ◌∙◌, ℕ, Bool, List, [], ◌∷◌, Option, Some, None, append_assoc, ap, refl, subst, sym}
 use Rattle.std.proofs.lemmas.Grind.{flat_map-append}
 use Rattle.std.specs.List.{flat_map}
-use Rattle.std.specs.Io.KnownBytes.{Appends, Keeps}
+use Rattle.std.specs.Io.KnownBytes.{Keeps}
 use Rattle.played_adapter.specs.Told.{Accessed, Arrived, Line, Noted, Offered, Stepped, Told}
 use Rattle.server_output.specs.Order.{WritesPart}
 use Rattle.server_output.specs.Telling.{Heard, WroteText, kept_after, kept_one, text_of, told_text}

@@ -2,7 +2,7 @@
 use Rattle.std.proofs.Common.{◌++◌, ◌∙◌, ℕ, List, [], Option, None, Some, append_assoc, ap, refl, sym}
 use Rattle.std.proofs.lemmas.List.{append-nil}
 use Rattle.std.specs.Io.KnownBytes.{Appends, Keeps}
-use Rattle.server_output.specs.Order.{IsBeginning, WritesText, TellsPart}
+use Rattle.server_output.specs.Order.{WritesText, TellsPart}
 use Rattle.server_output.specs.Texts.{Text}
 
 pub appends_then : (a b c : Option (List ℕ)) (first rest : List ℕ) → Appends a b first → Appends b c rest → Appends a c (first ++ rest)

@@ -7,7 +7,7 @@ use Rattle.std.proofs.lemmas.List.{append-nil, length-append, length-take, take_
 use Rattle.std.proofs.Math.Seq.{take-append-add}
 use Rattle.std.proofs.lemmas.List.Elements.{All-head, All-tail}
 use Rattle.std.specs.Prelude.{slice_index}
-use Rattle.std.specs.Io.KnownBytes.{Consumes, Keeps}
+use Rattle.std.specs.Io.KnownBytes.{Consumes}
 use Rattle.server_requests.specs.Lines.{behind_line, first_line, is_feed, lines_of, most_line_bytes, with_front}
 use Rattle.server_requests.specs.LinesRead.{Adds, AtEnd, BothKnown, IsRestOfLine, GoesOn}
 use Rattle.server_requests.specs.LinesRead.{IsLong, IsNextLine, IsWholeLine, TakesPart, kept_as}

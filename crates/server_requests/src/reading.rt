@@ -168,7 +168,7 @@ fn interleave_of(word: &str) -> Result<Request, Stop>
     Ok(Request::Set(Setting::Interleave(count as u16)))
 }
 
-/// Whether a word is the first of two words. Refuses a word that is neither of them.
+/// Returns whether a word is the first of two words. Refuses a word that is neither of them.
 fn is_first(word: &str, first: &str, second: &str) -> Result<bool, Stop>
     ensures value { Gives result (reading.is_first first.now second.now word.now) }
     ensures no_memory { IfErr result (λ stop. stop ≢ Memory) }
@@ -204,7 +204,7 @@ fn wire_of(word: &str) -> Result<Request, Stop>
     Ok(Request::Set(Setting::Wire(free)))
 }
 
-/// Reads `events on` or `events off`.
+/// Reads `events on` or `events off`. Refuses any other word.
 fn events_of(word: &str) -> Result<Request, Stop>
     ensures { Gives result (reading.events_in word.now) }
 {

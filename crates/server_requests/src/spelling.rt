@@ -1,6 +1,6 @@
 // The numbers and bytes that words spell. Decoding bytes fails with `Stop::Memory` if memory is refused.
 
-ghost use Rattle.std.specs.Prelude.{◌≡◌, ◌≢◌, IfErr};
+ghost use Rattle.std.specs.Prelude.{◌≢◌, IfErr};
 ghost use Rattle.server_requests.specs.Spellings.{Gives, base64_in, bytes_spelled, number_below, payload_in};
 ghost use Rattle.server_requests.specs.Spellings.{prefixed_bytes_in, size_in};
 ghost use Rattle.server_requests.specs.declared.refusal.Stop.TheVariants.{Memory};

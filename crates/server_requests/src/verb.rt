@@ -83,7 +83,7 @@ pub(crate) enum Verb {
 }
 
 impl Verb {
-    /// Whether a line with this kind of request may have this number of words, with the first word.
+    /// Returns whether a line with this kind of request may have this number of words, with the first word.
     pub(crate) fn takes_words(self, count: usize) -> bool
         ensures { result ≡ takes_words self count }
     {

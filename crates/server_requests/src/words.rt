@@ -12,7 +12,7 @@ use arrayvec::ArrayVec;
 /// many.
 const READ_WORDS: usize = 5;
 
-/// Whether a byte is a space or a tab, which separate words.
+/// Returns whether a byte is a space or a tab, which separate words.
 fn is_blank(byte: u8) -> bool
     ensures { result ≡ is_blank byte }
 {

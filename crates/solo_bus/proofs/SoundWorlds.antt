@@ -21,7 +21,7 @@ use Rattle.adapter.specs.HostFrames.{finished_pieces, named}
 use Rattle.adapter.specs.Rings.{ring_of}
 use Rattle.adapter.specs.Transmitting.{moved_on}
 use Rattle.adapter.specs.Slots.{finished, is_done, written_back_slots}
-use Rattle.adapter.specs.Conditions.{FitBuffers, Sound}
+use Rattle.adapter.specs.Conditions.{FitBuffers}
 use Rattle.bus.specs.Law.{Between}
 use Rattle.bus.specs.Pasts.{Past, nothing}
 use Rattle.adapter.specs.Running.{CanRun, CanTransmit}

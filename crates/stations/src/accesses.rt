@@ -1,13 +1,13 @@
 // The lent bus as a bus: its accesses, and the bus law, which it obeys.
 
-ghost use Rattle.std.specs.Prelude.{◌≡◌, length, min};
+ghost use Rattle.std.specs.Prelude.{min};
 
 use crate::lent_bus::LentBus;
 use crate::observer::Observer;
 use bus::{Bus, HonestBus};
 
 impl<'a, 't, O: Observer> Bus for LentBus<'a, 't, O> {
-    ghost use Rattle.std.specs.Prelude.{◌≡◌, length, ⊤};
+    ghost use Rattle.std.specs.Prelude.{⊤};
     ghost use Rattle.std.proofs.Common.{refl};
     ghost use Rattle.stations.specs.LentBuses.{HappenedLent, SameLent, bytes_here, world_here};
     ghost use Rattle.stations.specs.LentBusLaws.{lent_happened_join, lent_happened_none, same_lent_here, same_lent_on};

@@ -4,7 +4,7 @@
 ghost use Rattle.std.specs.Prelude.{◌≡◌, ◌<◌, ◌≤◌, ◌↔◌, ◌∷◌, ◌++◌, ℕ, [], IfOk, IfSome, IsNone, IsTrue, OnErr, Some};
 ghost use Rattle.std.specs.Prelude.{drop, length, option_map, slice_get, slice_set};
 ghost use Rattle.descriptors.specs.Frames.{longest_frame};
-ghost use Rattle.stations.specs.Ends.{EndState, EndHasRoomFor, HaveRoom, end_after_put};
+ghost use Rattle.stations.specs.Ends.{EndState, HaveRoom, end_after_put};
 ghost use Rattle.stations.specs.WireLogs.{last_of_others, log_entries};
 ghost use Rattle.std.specs.Prelude.{◌≢◌};
 ghost use Rattle.stations.specs.LogReaders.{IsLeastCursor, IsReader, IsReaderOn, IsSlowest};

@@ -144,8 +144,8 @@ is_place_of Choice place = nat_lt 0 place.access
 abbrev pub place_before : Place → Before → Result Site Fault
 place_before place before = if is_place_of before place then Ok (site.Place place) else Err faults.RequestPlace
 
--- The site of a deviation, from the place and the number of its line. A line with both or with neither is a fault, and so are the number 0
--- and a place at which nothing of this kind can be.
+-- The site of a deviation, from the place at the beginning of its line and the number after # in its last word. A line with both or with
+-- neither is a fault, and so are the number 0 and a place at which no access or request of the kind `before` can be.
 abbrev pub site_in : Option Place → Option ℕ → Before → Result Site Fault
 site_in (Some place) None before = place_before place before
 site_in (Some place) (Some number) before = Err faults.PlaceAndNumber

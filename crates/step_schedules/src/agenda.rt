@@ -141,7 +141,8 @@ impl Agenda {
         }
     }
 
-    /// Whether the default steps that no due action leaves out are taken. If not, all default steps are left out.
+    /// Returns whether the default steps that no due action leaves out are taken. If not, all default steps are left
+    /// out.
     pub fn plays(&self) -> bool
         ensures { result ≡ self.now.plays }
     {

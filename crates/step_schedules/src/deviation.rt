@@ -15,7 +15,7 @@ pub struct Place {
 }
 
 impl Place {
-    /// Whether this place is before another place.
+    /// Returns whether this place is before another place.
     pub(crate) fn is_before(self, other: Place) -> bool
         ensures { result ≡ is_before self other }
     {

@@ -82,7 +82,7 @@ fn action_of(words: &[&str]) -> Option<Action>
     None
 }
 
-/// Whether an action begins with this word.
+/// Returns whether an action begins with this word.
 fn begins_action(word: &str) -> bool
     ensures { result ≡ spec.begins_action word.now }
 {
@@ -164,7 +164,8 @@ fn named_number(word: &str) -> Result<Option<u32>, Fault>
     Ok(number)
 }
 
-/// Whether an access or a request of this kind can be at a place.
+/// Returns whether an access or a request of this kind can be at a place. A request that begins a round is at access 0.
+/// No access and no other request is at access 0.
 fn is_place_of(before: Before, place: Place) -> bool
     ensures { result ≡ spec.is_place_of before place }
 {
@@ -185,8 +186,9 @@ fn place_before(place: Place, before: Before) -> Result<Site, Fault>
     }
 }
 
-/// Returns the site of a deviation, from the place and the number of its line. Rejects a line with both or with
-/// neither, the number 0, and a place at which nothing of this kind can be.
+/// Returns the site of a deviation, from the place at the beginning of its line and the number after `#` in its last
+/// word. Rejects a line with both or with neither, the number 0, and a place at which no access or request of the kind
+/// `before` can be.
 fn site_of(place: Option<Place>, number: Option<u32>, before: Before) -> Result<Site, Fault>
     ensures { result ≡ spec.site_in place number before }
 {
@@ -198,14 +200,14 @@ fn site_of(place: Option<Place>, number: Option<u32>, before: Before) -> Result<
     }
 }
 
-/// Whether an action chooses a number.
+/// Returns whether an action chooses a number.
 fn is_choice(action: Action) -> bool
     ensures { result ≡ spec.is_choice action }
 {
     matches!(action, Action::Choose(_))
 }
 
-/// Whether an action may be before an access or a request of this kind.
+/// Returns whether an action may be before an access or a request of this kind.
 fn takes(before: Before, action: Action) -> bool
     ensures { result ≡ spec.takes before action }
 {

@@ -71,7 +71,7 @@ impl Past {
 }
 
 impl Event<'_> {
-    /// Whether a site is the place of this event, or a number. The number isn't compared.
+    /// Returns whether a site is the place of this event, or a number. The number isn't compared.
     fn is_at(&self, site: Site) -> bool
         ensures { result ≡ spec.is_at (spec.event_value self.now) site }
     {
@@ -81,8 +81,8 @@ impl Event<'_> {
         }
     }
 
-    /// Whether a deviation matches this event: they have the same kind and name, and the same place if the deviation
-    /// has a place. A number isn't compared.
+    /// Returns whether a deviation matches this event: they have the same kind and name, and the same place if the
+    /// deviation has a place. A number isn't compared.
     pub(crate) fn is_met_by(&self, deviation: &Deviation) -> bool
         ensures { result ≡ spec.is_met_by (spec.event_value self.now) (deviation_value deviation.now) }
     {

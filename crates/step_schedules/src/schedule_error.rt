@@ -52,7 +52,7 @@ impl Fault {
             }
             Fault::PlaceAndNumber => "use either ROUND.ACCESS or a number after #",
             Fault::RequestPlace => {
-                "before arrive, offer, step or settle, use ROUND.0; before an access, count from 1"
+                "before arrive, offer, step or settle, use ROUND.0; before an access or choose, count from 1"
             }
             Fault::NoNumber => {
                 "no place and no number: begin the line with ROUND.ACCESS, or end it with a number from 1 after #"

@@ -41,7 +41,7 @@ impl Waiting {
         Waiting { deviation, left }
     }
 
-    /// Whether the deviation is due before an event that comes now.
+    /// Returns whether the deviation is due before an event that comes now.
     fn is_due(&self, event: &Event<'_>) -> bool
         ensures { result ≡ spec.is_due (event_value event.now) (spec.waiting_value self.now) }
     {

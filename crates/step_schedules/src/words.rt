@@ -14,7 +14,7 @@ pub(crate) fn lines_in<'a>(alloc: Global, text: &'a str) -> Result<Vec<&'a str>,
     text.lines().collect(alloc)
 }
 
-/// Whether a word is before the comment of a line: it doesn't begin with `#`.
+/// Returns whether a word is before the comment of a line: it doesn't begin with `#`.
 fn is_said(word: &str) -> bool
     ensures { result ≡ spec.is_said word.now }
 {

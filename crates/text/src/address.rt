@@ -10,6 +10,7 @@ const ADDRESS_BYTES: usize = 6;
 /// The number of characters of an address's text: six pairs of digits and five colons.
 const ADDRESS_TEXT_LENGTH: usize = 17;
 
+/// The base of hexadecimal numbers.
 const HEXADECIMAL: u32 = 16;
 
 /// Returns the value of a hexadecimal digit in either case. Returns `None` for any other character.
@@ -29,7 +30,7 @@ fn byte_of(high: u8, low: u8) -> Option<u8>
 {
     let high = hexadecimal_digit(high)?;
     let low = hexadecimal_digit(low)?;
-    Some(high * 16 + low)
+    Some(high * HEXADECIMAL as u8 + low)
 }
 
 /// Returns the address that a text spells: six pairs of hexadecimal digits in either case, joined by colons, such as

@@ -2,7 +2,7 @@ ghost use Rattle.std.specs.Prelude.{◌≡◌, ◌+◌, ◌-◌, ◌<◌, ◌≤
 ghost use Rattle.std.specs.Prelude.{replicate, slice_get, true, false, IsTrue, IsNone, IfSome, IfOk};
 ghost use Rattle.std.specs.List.{flat_map};
 ghost use Rattle.tx_engine.specs.Hashed.{report_writes, transmitter_writes};
-ghost use Rattle.tx_engine.specs.Transmitter.{Queued, new_transmitter, Transmitter};
+ghost use Rattle.tx_engine.specs.Transmitter.{new_transmitter, Transmitter};
 ghost use Rattle.tx_engine.specs.Steps.{IfFront};
 ghost use Rattle.tx_engine.specs.Buffer.{transmitter_of, IsWhole};
 

@@ -45,15 +45,12 @@ fn asks_report(command: TxCommand) -> bool
 fn descriptor_at_head(ring: &Ring, memory: &HostMemory) -> Option<(u64, TxDesc)>
     ensures lies { IsSome result ↔ LiesIn memory.now (address_of ring.now ring.now.head) 16 }
     ensures address { IfSome result (λ found. found.0 ≡ address_of ring.now ring.now.head) }
-    ensures fits { IfSome result (λ found. found.0 + 12 < 2 ^ 64) }
+    // The descriptor's status is at byte 12.
+    ensures status_fits { IfSome result (λ found. found.0 + 12 < 2 ^ 64) }
     ensures value { IfSome result
         (λ found. found.1 ≡ transmit_descriptor_at memory.now (address_of ring.now ring.now.head)) }
 {
-    let size = memory.size();
-    let address = ring.descriptor(ring.head)?;
-    if address >= size {
-        return None;
-    }
+    let address = ring.descriptor(ring.head, memory.size())?;
     let mut bytes = [0; TX_DESC_BYTES];
     memory.load(address, &mut bytes).ok()?;
     Some((address, TxDesc::from_bytes(&bytes)))
@@ -81,7 +78,8 @@ pub fn fetch<'a>(ring: &Ring, memory: &'a HostMemory) -> Option<Named<'a>>
     ensures bytes { IfSome result (λ named. named.bytes.now
         ≡ named_by memory.now (transmit_descriptor_at memory.now (address_of ring.now ring.now.head))) }
     ensures descriptor { IfSome result (λ named. named.descriptor ≡ address_of ring.now ring.now.head) }
-    ensures fits { IfSome result (λ named. named.descriptor + 12 < 2 ^ 64) }
+    // The descriptor's status is at byte 12.
+    ensures status_fits { IfSome result (λ named. named.descriptor + 12 < 2 ^ 64) }
     ensures length { IfSome result (λ named. length named.bytes.now ≤ 1518) }
     ensures reports { IfSome result (λ named. named.reports
         ≡ is_set (command_bits (transmit_descriptor_at memory.now (address_of ring.now ring.now.head)).command) tx_rs) }

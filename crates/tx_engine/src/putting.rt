@@ -1,4 +1,4 @@
-ghost use Rattle.std.specs.Prelude.{◌≡◌, ◌↔◌, ◌∷◌, [], All, Bool, false, IsTrue, drop};
+ghost use Rattle.std.specs.Prelude.{◌≡◌, ◌↔◌, ◌∷◌, [], All, Bool, false, drop};
 ghost use Rattle.dma_memory.specs.Areas.{area_at};
 ghost use Rattle.descriptors.specs.declared.ring.Ring.{Ring};
 ghost use Rattle.descriptors.specs.Ring.{address_of, offered_places};

@@ -1,10 +1,10 @@
 // The frames of the offered descriptors of a transmit ring, as they are put onto the wire.
 
-ghost use Rattle.std.specs.Prelude.{◌≡◌, ◌≤◌, ◌<◌, ◌+◌, ◌-◌, ◌*◌, ◌⊎◌, ◌++◌, ◌∷◌, [], All, IfSome, IsSome, length, map};
+ghost use Rattle.std.specs.Prelude.{◌≡◌, ◌≤◌, ◌<◌, ◌+◌, ◌-◌, ◌*◌, ◌⊎◌, ◌++◌, ◌∷◌, [], All, IfSome, IsSome, length};
 ghost use Rattle.std.specs.Prelude.{vec_capacity, if◌then◌else◌};
 ghost use Rattle.dma_memory.specs.HostMemory.{LiesIn};
 ghost use Rattle.descriptors.specs.Ring.{address_of, count_of, offered_places};
-ghost use Rattle.tx_engine.specs.Fetching.{as_sent, transmit_descriptor_at, frame_at, named_by};
+ghost use Rattle.tx_engine.specs.Fetching.{as_sent, transmit_descriptor_at, named_by};
 ghost use Rattle.tx_engine.specs.QueuedFrames.{CanBeCopied, queued_in};
 
 use arrayvec::ArrayVec;
@@ -65,11 +65,7 @@ fn descriptor_in(memory: &HostMemory, ring: &Ring, place: u16) -> Option<TxDesc>
     ensures there { IsSome result }
     ensures value { IfSome result (λ desc. desc ≡ transmit_descriptor_at memory.now (address_of ring.now place)) }
 {
-    let size = memory.size();
-    let address = ring.descriptor(place)?;
-    if address >= size {
-        return None;
-    }
+    let address = ring.descriptor(place, memory.size())?;
     let mut bytes = [0; TX_DESC_BYTES];
     memory.load(address, &mut bytes).ok()?;
     Some(TxDesc::from_bytes(&bytes))

@@ -1,5 +1,4 @@
 ghost use Rattle.std.specs.Prelude.{◌≡◌, ◌==◌, ◌<◌, ◌↔◌, false, true, IsTrue, if◌then◌else◌, length};
-ghost use Rattle.descriptors.specs.Ring.{next_of};
 ghost use Rattle.tx_engine.specs.Fetching.{HasNoFrameToTake, IsFetchable, pads};
 ghost use Rattle.tx_engine.specs.Steps.{IfTook, Takes};
 ghost use Rattle.tx_engine.specs.ToSend.{to_send};

@@ -1,5 +1,5 @@
 -- One event that is a reset: `ResetPlayed` for hosts that exist and that don't exist.
-use Rattle.std.proofs.Common.{◌≡◌, ◌≢◌, ◌≤◌, ◌<◌, ◌+◌, ◌^◌, ◌++◌, ◌∷◌, ◌==◌, [], ℕ, true, false, List, None, Option, Some, length, map, min}
+use Rattle.std.proofs.Common.{◌≡◌, ◌≢◌, ◌≤◌, ◌<◌, ◌+◌, ◌++◌, ◌∷◌, ◌==◌, [], ℕ, true, false, List, None, Option, Some, length, map, min}
 use Rattle.std.proofs.Common.{slice_set, suc, sym, ap, subst, ◌∙◌, arith}
 use Rattle.std.specs.Prelude.{nat_lt}
 use Rattle.std.proofs.lemmas.Bool.{lt-leb, lt-ltb}
@@ -7,8 +7,7 @@ use Rattle.std.proofs.lemmas.Grind.{flat_map-append}
 use Rattle.std.proofs.lemmas.List.{append-nil}
 use Rattle.std.proofs.lemmas.Option.{slice_get_past}
 use Rattle.circular_buffer.proofs.Places.{slice_get-set_other}
-use Rattle.dma_memory.specs.Layout.{Counts, size_of}
-use Rattle.dma_memory.specs.LayoutLaws.{layout_begins}
+use Rattle.dma_memory.specs.Layout.{Counts, IsAllowed}
 use Rattle.adapter.specs.HostFrames.{frames_held}
 use Rattle.bus.specs.LivelyBuses.{most_accesses}
 use Rattle.bus.specs.TickGroups.{without_go}
@@ -74,8 +73,8 @@ parts-counted k steps h h' a b on_after resets is within =
     record { early = none; stopping = two; resting = omega (arith, all, within); within = omega (arith, within) }
 
 -- The number of accesses before a reset's later part is below the count at which accesses saturate.
-pub few-slots : (counts : Counts) → size_of counts < 2 ^ 64 → 302 + counts.rx < most_accesses
-few-slots counts size = let rings = (layout_begins counts).behind_rings in omega (arith, size, rings)
+pub few-slots : {counts : Counts} → IsAllowed counts → 302 + counts.rx < most_accesses
+few-slots allowed = omega (arith, allowed.rx.most)
 
 -- The answer of a reset, by the numbers of accesses before its outcomes
 
@@ -162,7 +161,7 @@ set-reset host ticks old stations heard accesses full answer h h' reply stands t
       right = reset-fates host answer steps h h' a stations stood resets;
     } in
     let counted = parts-counted host steps h h' a stations answer.on_after resets makes.enabled_after
-    (subst (λ (n : ℕ). n < most_accesses) (sym on_after) (few-slots h.driver.layout stood.ready.ready.driver_is.addresses)) in
+    (subst (λ (n : ℕ). n < most_accesses) (sym on_after) (few-slots stood.ready.ready.driver_is.allowed)) in
     let whole = whole_reset host setup parts in
     let leads : LeadsTo host whole a stations =
     subst (λ (list : List AtomicStep). LeadsTo host list a stations) resets.split runs.of_call.leads in

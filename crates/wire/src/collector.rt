@@ -1,6 +1,6 @@
 // The observer with which `Lan::run` collects replies.
 
-ghost use Rattle.std.specs.Prelude.{◌≡◌, IsOk};
+ghost use Rattle.std.specs.Prelude.{◌≡◌};
 
 use crate::run_observer::RunObserver;
 use adapter::Outcome;

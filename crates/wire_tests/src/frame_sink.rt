@@ -1,7 +1,6 @@
 //! A sink that stores the frames of a drain.
 
 ghost use Rattle.std.specs.Prelude.{◌≤◌, ◌-◌, IfOk, length, map, vec_capacity};
-ghost use Rattle.packet_socket.specs.HostCalls.{Given};
 
 use descriptors::Frame;
 use std::alloc::{AllocError, Global};

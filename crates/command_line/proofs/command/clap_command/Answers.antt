@@ -15,13 +15,12 @@ loop-argument-init c = record {
 pub loop-argument-preserved : goal.loop-argument-preserved
 loop-argument-preserved c =
     let old = c.loop-argument.command in
-    let new = c.in-Ok.longer in
     let arg = c.clap_argument.result in
     record {
-      app = with_argument old new arg (new_app c.args.subcommand.now.0.now) c.args.subcommand.now.3.now
-          c.loop-argument.argument-index _ (omega arith) c.in-Ok.ensures c.clap_argument.ensures.local c.clap_argument.ensures.rule
+      app = with_argument old _ arg (new_app c.args.subcommand.now.0.now) c.args.subcommand.now.3.now
+          c.loop-argument.argument-index _ (omega arith) c.in_ok-command.ensures c.clap_argument.ensures.local c.clap_argument.ensures.rule
           c.loop-argument.invariant.app;
-      local = local_argument old new arg c.in-Ok.ensures c.clap_argument.ensures.local c.loop-argument.invariant.local;
+      local = local_argument old _ arg c.in_ok-command.ensures c.clap_argument.ensures.local c.loop-argument.invariant.local;
     }
 
 pub returns-clause-app : goal.returns-clause-app
@@ -30,5 +29,5 @@ returns-clause-app c =
     ∙ ap (λ arguments. with_rules (new_app c.args.subcommand.now.0.now) (map rule_for arguments))
     (take_all c.loop-argument.argument-index c.args.subcommand.now.3.now (omega arith))
 
-pub returns-clause-local : goal.returns-clause-local
-returns-clause-local c = c.loop-argument.invariant.local
+pub returns-clause-no_globals : goal.returns-clause-no_globals
+returns-clause-no_globals c = c.loop-argument.invariant.local

@@ -34,7 +34,7 @@ returns-clause-found g c =
     let is : app_of c.in_ok-command.command ≡ program_app = c.in_ok-command.ensures.app in
     let words = map g.S.AsStr.text c.args.words.now in
     let m = c.in_ok-matches in (
-      subcommand_required c.in_ok-command.command m.matches m.ensures.parsed c.in_ok-command.ensures.local
+      subcommand_required c.in_ok-command.command m.matches m.ensures.parsed c.in_ok-command.ensures.no_globals
           (ap (λ (a : App). a.top.subcommand_required) is ∙ needs_subcommand),
       (m.ensures.matches (ap is_simple is ∙ simple)).1 ∙ found_is (app_of c.in_ok-command.command) words is,
     )

@@ -194,6 +194,5 @@ overflow_add-skipped g c = omega (
   c.in_ok-fill.ensures.limit,
   c.in_ok-fill-2.ensures.limit,
   c.packets.invariant.room,
-  c.limit-limit.ensures,
-  c.requires.small,
+  c.requires.counted,
 )

@@ -2,7 +2,7 @@ use Rattle.std.proofs.Common.{◌≡◌, ◌∙◌, true, ap, sym, arith, rules}
 use Rattle.std.proofs.lemmas.Bool.{false≢true}
 use Rattle.std.proofs.lemmas.Grind.{common_steps}
 use Rattle.text.specs.Numbers.{is_number}
-use Rattle.scenario.specs.Meanings.{is_count, number_read, saying}
+use Rattle.scenario.specs.Meanings.{is_count, number_read, with_command}
 use Rattle.scenario.specs.SoFar.{Draws, so_far}
 use Rattle.scenario.specs.Words.{texts, word}
 use Rattle.scenario.specs.declared.line_kind.LineKind.TheVariants as line
@@ -24,14 +24,14 @@ returns c =
     let words = texts c.args.words.now in
     let start : is_number 10 64 (word 2 words) ≡ true = first_of (search rules, grind (arith, common_steps)) in
     let value : c.in-Some-number_of.start ≡ number_read (word 2 words) = first_of (search rules, grind (arith, common_steps)) in
-    line-said-by line.Auto before (so_far c.say.new.scenario) (saying (Draws c.in-Some.count c.in-Some-number_of.start) before) words
-    c.say.result
+    line-said-by line.Auto before (so_far c.push_command.new.scenario)
+    (with_command (Draws c.in-Some.count c.in-Some-number_of.start) before) words c.push_command.result
     (record {
       count = text-count c.args.words.now ∙ c.if-words-ne3.false;
       values = (sym (ap is_count c.word_at.ensures) ∙ c.in-Some.ensures.0, start);
       names = tt;
       order = λ late. absurd (false≢true late);
     })
-    (ap (λ n. saying (Draws n c.in-Some-number_of.start) before) (c.in-Some.ensures.1 ∙ ap number_read c.word_at.ensures)
-    ∙ ap (λ n. saying (Draws (number_read (word 1 words)) n) before) value)
-    c.say.ensures.said c.say.ensures.memory
+    (ap (λ n. with_command (Draws n c.in-Some-number_of.start) before) (c.in-Some.ensures.1 ∙ ap number_read c.word_at.ensures)
+    ∙ ap (λ n. with_command (Draws (number_read (word 1 words)) n) before) value)
+    c.push_command.ensures.said c.push_command.ensures.memory

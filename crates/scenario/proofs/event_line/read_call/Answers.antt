@@ -1,7 +1,7 @@
 use Rattle.std.proofs.Common.{◌≡◌, ◌∙◌, ℕ, List, Bor, length, ap, subst, sym}
 use Rattle.std.proofs.lemmas.Bool.{false≢true}
 use Rattle.scenario.specs.Answers.{IsFaulty}
-use Rattle.scenario.specs.Meanings.{AreKnown, CanAsk, are_ticks, call_words, saying}
+use Rattle.scenario.specs.Meanings.{AreKnown, CanAsk, are_ticks, call_words, with_command}
 use Rattle.scenario.specs.SoFar.{hosts_of, said_of_call, so_far}
 use Rattle.scenario.specs.Words.{Text, texts, word}
 use Rattle.scenario.specs.declared.line_kind.LineKind.TheVariants as line
@@ -51,8 +51,8 @@ returns c =
     let said = said_of_call c.in_ok-call.call c.in_ok-host.host c.in_ok-host.ticks.items in
     let hosts = ap hosts_of c.hosts.ensures in
     let name = c.word_at.ensures ∙ ap (word 1) c.split_at_word.ensures.before in
-    line-said-by (line.Call c.args.kind) before (so_far c.say.new.scenario) (saying said before) words
-    c.say.result
+    line-said-by (line.Call c.args.kind) before (so_far c.push_command.new.scenario) (with_command said before) words
+    c.push_command.result
     (record {
       count = count;
       values = (
@@ -68,4 +68,4 @@ returns c =
     (hosts_of c.hosts.result.now) c.word_at.result.now said c.in_ok-host.host c.in_ok-host.ticks.items
     hosts c.word_at.ensures c.split_at_word.ensures.before c.split_at_word.ensures.after
     (c.in_ok-call.ensures.ok.said c.in_ok-host.host c.in_ok-host.ticks.items) call.host call.inside)
-    c.say.ensures.said c.say.ensures.memory
+    c.push_command.ensures.said c.push_command.ensures.memory

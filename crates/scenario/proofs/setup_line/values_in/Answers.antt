@@ -1,7 +1,6 @@
 use Rattle.std.proofs.Common.{◌≡◌, ◌==◌, ◌∙◌, true, is_some, ap, refl, subst, sym}
 use Rattle.std.proofs.lemmas.Bool.{false≢true}
 use Rattle.scenario.specs.HostOptions.{AreCounted, AreRead, options_asked}
-use Rattle.scenario.specs.SoFar.{hosts_of, host_place}
 use Rattle.scenario.specs.Spellings.{IsAddressText, address_in}
 use Rattle.scenario.proofs.LineFacts.{host-counted, host-valued, no-place, none-before, some-before}
 use Rattle.scenario.proofs.setup_line.values_in.Goals as goal

@@ -26,7 +26,7 @@ returns-clause-state c =
       sym c.self.view_is,
     )
     (left_by-state _ c.rx_data-answer.result (state_of c.self.inside)
-    (rw (c.rx_data-answer.ensures.ring, c.ring-ring.ensures) at c.rx_data-answer.ensures.low))
+    (rw (c.rx_data-answer.ensures.ring, c.ring-ring.ensures) at c.rx_data-answer.ensures.half_offered))
 
 pub returns-clause-memory : goal.returns-clause-memory
 returns-clause-memory c =

@@ -1,6 +1,5 @@
-use Rattle.std.proofs.Common.{List, ap, arith, subst, sym, ◌∙◌}
+use Rattle.std.proofs.Common.{List, ap, subst, sym, ◌∙◌}
 use Rattle.adapter.specs.declared.step.StepKind.TheVariants.{RxData}
-use Rattle.dma_memory.specs.Layout.{Counts}
 use Rattle.registers.specs.Bits.{Meet}
 use Rattle.packet_socket.specs.HostState.{HostState}
 use Rattle.stations.specs.Stations.{StationState, world_at}
@@ -8,7 +7,7 @@ use Rattle.host_calls.specs.DrainedHosts.{HoldsNothing}
 use Rattle.host_calls.specs.Networks.{NetworkState, nth_host}
 use Rattle.host_calls.proofs.AdapterSteps.{has-stepped, moves-none, moves-piece, same-stepped}
 use Rattle.host_calls.proofs.Endings.{nothing-left}
-use Rattle.host_calls.proofs.HostsOfNetworks.{drained-here, found-steps, has-host, stations-are}
+use Rattle.host_calls.proofs.HostsOfNetworks.{drained-here, found-steps, stations-are}
 use Rattle.host_calls.proofs.network.Network.move_piece.Goals.{in-Part, in_default}
 use Rattle.host_calls.proofs.network.Network.move_piece.Goals as goal
 
@@ -45,18 +44,11 @@ returns-clause-ends c =
     let free = ap (λ (list : List StationState). (world_at list k).adapter.receiver.work) (sym are) ∙ c.requires.free in
     let quiet = subst (λ (list : List StationState).
     ¬ (Meet (world_at list k).adapter.causes.recorded (world_at list k).adapter.causes.mask)) are c.requires.quiet in
-    let counts = c.layout-layout.ensures ∙ ap (λ (host : HostState). host.driver.layout)
-    (has-host c.self.view_is c.self.invariant c.requires.there c.index.ensures).is in
-    let rx = ap (λ (counts : Counts). counts.rx) counts in
-    let buffers = ap (λ (counts : Counts). counts.buffers) counts in
-    let ring = c.rx.ensures.allowed.least in
-    let enough = c.buffers.ensures.allowed.least in
     elim c.match-matches.branch [
       | in-Part w ↦ λ none. absurd (cc (none, w.matches-is))
       | in_default w ↦ λ none.
           subst (λ (host : HostState). HoldsNothing host (world_at left k))
           (sym (ap (λ (one : NetworkState). nth_host one k) c.self.view_is))
           (nothing-left k stations left h stands (moves-none c.step.result it w.in_default.not-Part w.in_default.not-Moved stands)
-          free quiet c.requires.given (omega (arith, rx, ring, c.rx.ensures.count))
-          (omega (arith, rx, buffers, ring, enough, c.rx.ensures.count, c.buffers.ensures.count)))
+          free quiet c.requires.given)
     ]

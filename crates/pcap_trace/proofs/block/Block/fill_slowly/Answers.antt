@@ -1,5 +1,5 @@
-use Rattle.std.proofs.Common.{◌∙◌, arith, refl}
-use Rattle.pcap_trace.proofs.Uses.{received_none, receives_joined, uses_joined, uses_received}
+use Rattle.std.proofs.Common.{◌∙◌, arith, inl, inr, refl}
+use Rattle.pcap_trace.proofs.Uses.{counted-first, received_none, receives_joined, uses_joined, uses_received}
 use Rattle.pcap_trace.proofs.block.Block.fill_slowly.Goals as goal
 
 pub loop-self-init : goal.loop-self-init
@@ -7,6 +7,7 @@ loop-self-init g c = record {
   countable = refl;
   received = received_none c.args.self.now (g.S.Source.left c.args.source.now);
   limit = omega arith;
+  counted = inl (refl, refl);
 }
 
 pub loop-self-preserved : goal.loop-self-preserved
@@ -16,6 +17,7 @@ loop-self-preserved g c = record {
       (g.S.Source.left c.loop-self.source) (g.S.Source.left c.read_more.new.source) c.loop-self.invariant.received
       c.in_ok-read_more.ensures.received;
   limit = omega (arith, c.in_ok-read_more.ensures.more, c.in_ok-read_more.ensures.limit);
+  counted = inr (counted-first g.S.Source.limit c.loop-self.invariant.counted (omega (arith, c.read_more.ensures.counted)));
 }
 
 pub returns-in_err-read_more-clause-used : goal.returns-in_err-read_more-clause-used

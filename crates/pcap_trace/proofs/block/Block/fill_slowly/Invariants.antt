@@ -1,4 +1,4 @@
-use Rattle.std.proofs.Common.{◌≡◌, ◌≤◌, ◌+◌, length}
+use Rattle.std.proofs.Common.{◌≡◌, ◌≤◌, ◌<◌, ◌+◌, ◌^◌, ◌⊎◌, length}
 use Rattle.pcap_trace.specs.Devices.{Receives}
 use Rattle.pcap_trace.proofs.block.Block.fill_slowly.Given as goal
 
@@ -7,6 +7,7 @@ invariant-loop-self g l = record {
   countable : g.S.Source.failures l.source ≡ g.S.Source.failures l.initial.source;
   received : Receives l.initial.self l.self (g.S.Source.left l.initial.source) (g.S.Source.left l.source);
   limit : length l.self + g.S.Source.limit l.source ≤ length l.initial.self + g.S.Source.limit l.initial.source;
+  counted : ((l.self ≡ l.initial.self) × (l.source ≡ l.initial.source)) ⊎ (g.S.Source.limit l.initial.source < 2 ^ 64);
 }
 
 abbrev pub decreases-loop-self : goal.decreases-loop-self
