@@ -210,6 +210,9 @@ class RustReader:
     def function(self, found, stop, scope, owner, impl_of) -> int:
         """Reads a function: its signature and its clauses."""
         place = self.signature_end(found.end(), stop)
+        # The comment above the first clause isn't part of the signature.
+        comment = re.search(r"(?:^[ \t]*//.*\n)*[ \t]*\Z", self.text[found.start():place], re.M)
+        place = found.start() + comment.start()
         signature = self.text[found.start():place]
         new = self.new("fn", self.name_after(found), found, owner, impl_of, text=signature.strip(),
                        scope=Scope(self.module, scope))

@@ -27,7 +27,7 @@ reason_of_descriptor desc =
     else if desc.length == 0 || nat_lt longest_frame desc.length then Length
     else Buffer
 
--- why the descriptor at the head of this transmit ring can't be taken
+-- why the descriptor at the head of this transmit ring can't be taken: the first reason that applies
 abbrev pub reason_of_take : List ℕ → DescriptorRing → Reason
 reason_of_take memory ring =
     if not (has_valid_indices ring) then Ring

@@ -65,7 +65,8 @@ fn receive_control(machine: &Machine) -> Rctl
     Rctl(machine.value(RCTL))
 }
 
-/// Returns the first reason why the descriptor at the head of the transmit ring can't be taken.
+/// Returns the first reason why the descriptor at the head of the transmit ring can't be taken, or `Buffer` if no other
+/// reason applies. `words` are the values of the ring's registers.
 fn reason_of_take(machine: &Machine, words: RingWords) -> Reason
     ensures { result ≡ reason_of_take machine.now.world.memory (ring_from words) }
 {
@@ -94,7 +95,8 @@ fn reason_of_descriptor(desc: &TxDesc) -> Reason
 }
 
 /// Returns the first reason why no piece can be moved to the buffer of the descriptor at the head of the receive ring,
-/// or `Buffer` if no other reason applies.
+/// or `Buffer` if no other reason applies. `words` are the values of the ring's registers, and `control` is that of
+/// RCTL.
 fn reason_of_data(machine: &Machine, words: RingWords, control: Rctl) -> Reason
     ensures { result ≡ reason_of_data control.0 machine.now.world.memory (ring_from words) }
 {
@@ -110,7 +112,8 @@ fn reason_of_data(machine: &Machine, words: RingWords, control: Rctl) -> Reason
     }
 }
 
-/// Returns the bytes of the descriptor at the head of a ring, or `None` if and only if some of them are outside memory.
+/// Returns the 16 bytes of the descriptor at the head of a receive or transmit ring, or `None` if and only if some of
+/// them are outside memory.
 fn descriptor_at_head(machine: &Machine, ring: Ring) -> Option<[u8; TX_DESC_BYTES]>
     ensures { result ≡ (if is_inside machine.now.world.memory (address_of ring ring.head) 16
         then Some (bytes_at machine.now.world.memory (address_of ring ring.head) 16) else None) }

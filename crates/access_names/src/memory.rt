@@ -9,12 +9,14 @@ use crate::{Engine, RingWords};
 use bus::Machine;
 use descriptors::RX_DESC_BYTES;
 
+/// The size of a descriptor of either ring, in bytes.
 const DESCRIPTOR_BYTES: u64 = RX_DESC_BYTES as u64;
 
 /// Returns the target of an access at this address in memory.
 ///
-/// The target is a descriptor of the receive ring if the address is in the receive ring. Otherwise, the target is a
-/// descriptor of the transmit ring if the address is in the transmit ring, or else a byte of memory.
+/// If the address is in the receive ring, the target is a byte of a descriptor in this ring. Otherwise, if the address
+/// is in the transmit ring, the target is a byte of a descriptor in that ring. In any other case, the target is a byte
+/// of memory.
 pub fn memory_target(machine: &Machine, address: u64) -> Target
     ensures target { result ≡ memory_target_in machine.now.world.adapter address }
 {

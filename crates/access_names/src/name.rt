@@ -24,12 +24,13 @@ const HEXADECIMAL: u64 = 16;
 /// The name of a target. The name contains its bytes, so no memory is allocated.
 #[derive(Clone, Copy)]
 pub struct TargetName {
+    /// The buffer of the name.
     bytes: [u8; ROOM],
     /// The index of the name's first byte. The name ends at the end of `bytes`.
     start: usize,
 }
 
-/// Returns the lower-case hexadecimal digit with this value.
+/// Returns the lower-case hexadecimal digit with this value, which must be below 16.
 fn digit_of(value: u64) -> u8
     requires { value < 16 }
     ensures { result ≡ digit_glyph false value }
@@ -37,6 +38,7 @@ fn digit_of(value: u64) -> u8
     if value < 10 {
         b'0' + value as u8
     } else {
+        // `b'W' + 10` is `b'a'`.
         b'W' + value as u8
     }
 }
@@ -59,11 +61,12 @@ impl TargetName {
     {
         match self.bytes.get(self.start..) {
             Some(name) => name,
+            // `start` is at most `ROOM`, so there is always a slice.
             None => &[],
         }
     }
 
-    /// Adds text in front of the name.
+    /// Adds text in front of the name. The buffer must have room for this text.
     fn prepend(&mut self, text: &str)
         requires { (length text.now ≤ self.old.start) × (self.old.start ≤ 128) }
         ensures text { name_bytes self.new ≡ text.now ++ name_bytes self.old }
@@ -74,7 +77,8 @@ impl TargetName {
         self.start = start;
     }
 
-    /// Adds a number in front of the name, in decimal digits.
+    /// Adds a number in front of the name, in decimal digits. The buffer must have room for 20 digits, the maximum of a
+    /// `u64`.
     fn prepend_decimal(&mut self, number: u64)
         requires { (20 ≤ self.old.start) × (self.old.start ≤ 128) }
         ensures text { name_bytes self.new ≡ decimal number ++ name_bytes self.old }
@@ -83,7 +87,8 @@ impl TargetName {
         self.start = write_digits(number, &mut self.bytes, self.start);
     }
 
-    /// Adds a number in front of the name, in lower-case hexadecimal digits.
+    /// Adds a number in front of the name, in lower-case hexadecimal digits. The buffer must have room for
+    /// [`MOST_DIGITS`] digits.
     fn prepend_hexadecimal(&mut self, number: u64)
         requires { (64 ≤ self.old.start) × (self.old.start ≤ 128) }
         ensures text { name_bytes self.new ≡ digits 16 false number ++ name_bytes self.old }
@@ -102,7 +107,8 @@ impl TargetName {
         self.start = at - 1;
     }
 
-    /// Adds a number in front of the name, in decimal digits and in brackets.
+    /// Adds a number in front of the name, in decimal digits and in brackets. The buffer must have room for 20 digits
+    /// and the brackets.
     fn prepend_index(&mut self, index: u64)
         requires { (22 ≤ self.old.start) × (self.old.start ≤ 128) }
         ensures text { name_bytes self.new ≡ bracketed (decimal index) ++ name_bytes self.old }

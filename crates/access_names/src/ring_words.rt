@@ -43,7 +43,8 @@ impl RingWords {
         }
     }
 
-    /// Returns the ring, or `None` if and only if head or tail isn't the index of a descriptor in the ring.
+    /// Returns the ring, or `None` if and only if head or tail isn't the index of a descriptor in the ring. A ring has
+    /// at most 65,536 descriptors, so every index is a `u16`.
     pub(crate) fn ring(self) -> Option<Ring>
         ensures { result ≡ (if has_valid_indices (ring_from self) then Some (ring_from self) else None) }
     {

@@ -8,7 +8,8 @@ pub enum Target {
     /// The register at this offset in bytes, such as `ICR`, `MTA[5]` or `RAL[0]`; `register[0x10]` if no register has
     /// this offset.
     Register(u32),
-    /// A byte of a descriptor in a ring, such as `rx[1]+8`, or `tx[0]` for the first byte of the descriptor.
+    /// A byte of a descriptor in a ring, such as `rx[1]+8`. The first byte has the name of its descriptor, such as
+    /// `tx[0]`.
     Descriptor {
         /// The engine that owns the ring.
         ring: Engine,

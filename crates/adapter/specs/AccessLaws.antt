@@ -14,27 +14,39 @@ use Rattle.registers.specs.Places.{ctrl_slu}
 
 -- Each register of the table is at its offset, and no other register is at this offset. Offsets are multiples of 4 below 0x5800.
 pub record OffsetsByTable : Type 0 where
+  -- The register at the offset of each register is this register.
   pub there : (register : Register) → IsInTable register → register_at (row_of register).offset ≡ Some register
+  -- A register that is found at an offset exists, and is at this offset.
   pub only : (offset : ℕ) (register : Register) → register_at offset ≡ Some register → StandsAt offset register
+  -- Each offset is a multiple of 4.
   pub multiple_of_four : (register : Register) → (row_of register).offset % 4 ≡ 0
+  -- Each offset is below 0x5800.
   pub below : (register : Register) → IsInTable register → (row_of register).offset < 0x5800
 
 -- An access at an offset is an access of the register at this offset.
 pub record AccessesByRegister (offset : ℕ) (register : Register) (state : AdapterState) : Type 0 where
+  -- A read at the offset returns what a read of the register returns.
   pub answered : answer_at offset state ≡ answer register state
+  -- A read at the offset has the effect of a read of the register.
   pub read : after_read offset state ≡ read_of register state
+  -- A write at the offset has the effect of a write of the register.
   pub written : (value : ℕ) → after_write offset value state ≡ write_of register value state
 
 -- A read at the offset returns 0, and neither a read nor a write at the offset changes anything.
 pub record IgnoresAccesses (offset : ℕ) (state : AdapterState) : Type 0 where
+  -- A read at the offset returns 0.
   pub answered : answer_at offset state ≡ 0
+  -- A read at the offset changes nothing.
   pub read : after_read offset state ≡ state
+  -- A write at the offset changes nothing.
   pub written : (value : ℕ) → after_write offset value state ≡ state
 
+-- An access at the offset of a register is an access of this register (`AccessesByRegister`), in each state.
 abbrev pub AccessesByOffset : Type 0
 AccessesByOffset = (offset : ℕ) (register : Register) (state : AdapterState) → StandsAt offset register
     → AccessesByRegister offset register state
 
+-- If no register is at an offset, accesses at this offset are ignored (`IgnoresAccesses`), in each state.
 abbrev pub OutsideIsIgnored : Type 0
 OutsideIsIgnored = (offset : ℕ) (state : AdapterState) → ((register : Register) → ¬ (StandsAt offset register))
     → IgnoresAccesses offset state
@@ -49,8 +61,11 @@ PlainReadsBack =
 -- A write of the first register can change what the second register reads: CTRL changes STATUS by SLU, ICS changes ICR, and IMC changes
 -- IMS.
 pub data Touches : Register → Register → Type 0 where
+  -- STATUS depends on CTRL.SLU.
   link_shown : Touches Ctrl Status
+  -- A write of ICS records causes.
   causes_set : Touches Ics Icr
+  -- A write of IMC removes causes from the mask.
   mask_cleared : Touches Imc Ims
 
 -- A write of one register doesn't change what another register reads, unless `Touches` holds for the two registers or the write is a reset.
@@ -75,6 +90,7 @@ pub record TouchedRead (value : ℕ) (state : AdapterState) : Type 0 where
   -- After a write of IMC, IMS reads the earlier mask without the written causes.
   pub mask_cleared : answer Ims (write_of Imc value state) ≡ difference (answer Ims state) (causes_of value)
 
+-- `TouchedRead` holds for each written value and each state.
 abbrev pub TouchedByWrites : Type 0
 TouchedByWrites = (value : ℕ) (state : AdapterState) → TouchedRead value state
 
@@ -82,11 +98,14 @@ TouchedByWrites = (value : ℕ) (state : AdapterState) → TouchedRead value sta
 pub record IsReset (before after : AdapterState) : Type 0 where
   -- Each register except PBA reads its reset value from the table.
   pub registers : (register : Register) → IsInTable register → register ≢ Pba → answer register after ≡ (row_of register).reset before.image
-  -- PBA, the PHY and the EEPROM don't change.
+  -- PBA doesn't change.
   pub allocation : answer Pba after ≡ answer Pba before
+  -- The PHY doesn't change.
   pub phy : after.phy ≡ before.phy
+  -- The EEPROM doesn't change.
   pub image : after.image ≡ before.image
 
+-- A write of CTRL with RST resets the adapter (`IsReset`), whatever the other bits of the value.
 abbrev pub ResetByTable : Type 0
 ResetByTable = (value : ℕ) (state : AdapterState) → is_reset Ctrl value ≡ true → IsReset state (write_of Ctrl value state)
 

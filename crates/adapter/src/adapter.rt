@@ -102,8 +102,8 @@ impl Adapter {
         })
     }
 
-    /// Performs a driver's read of the register at an offset in bytes, and returns the value read. If no register is
-    /// at the offset, returns 0 and changes nothing (our choice).
+    /// Performs a driver's read of the register at an offset in bytes, and returns the value read. A read of ICR or of
+    /// a counter clears the register. If no register is at the offset, returns 0 and changes nothing (our choice).
     pub fn read(&mut self, offset: u32) -> u32
         ensures answer { result ≡ answer_at offset self.old }
         ensures state { self.new ≡ after_read offset self.old }
@@ -133,8 +133,8 @@ impl Adapter {
         }
     }
 
-    /// Performs a driver's write of the register at an offset in bytes. If no register is at the offset, nothing
-    /// changes (our choice).
+    /// Performs a driver's write of the register at an offset in bytes, by the table of [`offsets`](crate::offsets). A
+    /// write of CTRL with RST resets the adapter. If no register is at the offset, nothing changes (our choice).
     #[inline(always)]
     pub fn write(&mut self, offset: u32, value: u32)
         ensures state { self.new ≡ after_write offset value self.old }
@@ -164,8 +164,8 @@ impl Adapter {
         self.file.eerd.is_pending()
     }
 
-    /// Returns whether `PhyTick` would have something to do: a link countdown is running, or a command of MDIC is
-    /// pending.
+    /// Returns whether the next `PhyTick` would have something to do: a link countdown is running, or a command of MDIC
+    /// is pending.
     pub fn phy_has_work(&self) -> bool
         ensures { result ≡ has_work self.now.mdic self.now.phy }
     {
@@ -267,8 +267,9 @@ impl Adapter {
         }
     }
 
-    /// Plays a tick of the PHY. Records LSC if the link changed to up, and MDAC if a command with bit I set has ended.
-    /// Returns `Ticked`, or `Nothing` if no link countdown was running and no command was pending.
+    /// Performs a tick of the PHY: decreases a running link countdown by 1, and then ends a pending command of MDIC.
+    /// Records LSC if the link changed to up, and MDAC if a command with bit I set has ended. Returns `Ticked`, or
+    /// `Nothing` if no link countdown was running and no command was pending.
     fn tick_phy(&mut self) -> Outcome<()>
         ensures state { self.new ≡ after_phy_tick self.old }
         ensures answer { framed result self.old ≡ ticked (has_work self.old.mdic self.old.phy) }

@@ -20,7 +20,8 @@ pub fn offsets_by_table()
 /// The effect of accesses on registers, by the table, in every state of the adapter:
 /// - right after a write that is no reset, a register whose row has kept bits reads the kept bits of the written value;
 /// - a write of one register doesn't change what other registers read. The exceptions: a write of CTRL with RST resets
-///   the adapter, CTRL.SLU changes STATUS, ICS changes ICR, and IMC changes IMS;
+///   the adapter, CTRL.SLU changes STATUS, ICS changes ICR, and IMC changes IMS. The clause `touched` states the values
+///   that STATUS, ICR and IMS then have;
 /// - a read of one register doesn't change what any other register reads.
 pub fn accesses_by_table()
     ensures read_back { PlainReadsBack }

@@ -31,7 +31,7 @@ pub enum Outcome<F> {
     Nothing,
     /// `TxTake` or `RxData` can't use the ring, the descriptor, or the memory that the descriptor points to. For
     /// `RxData`, this is also the outcome if there is a piece to move while RCTL.BSEX is set. Memory and the registers
-    /// of the rings are unchanged. Steps of this kind return `Nothing` until a write of CTRL with RST.
+    /// of the rings are unchanged. Later steps of the same kind return `Nothing` until a write of CTRL with RST.
     Fault,
 }
 

@@ -17,9 +17,12 @@ impl Adapter {
     /// offered transmit descriptors. The frames of descriptors are padded to 60 bytes, whether TCTL.PSP is set or not.
     ///
     /// Appends the frames held to `holding`. First come the frames that end in finished slots, from slot `oldest` of
-    /// the receive ring on, or in the slot in progress. The frames in the receive packet buffer follow. The rings and
-    /// the bytes of these frames must be inside memory, and no frame may exceed 1,518 bytes (`specs/Pending.antt`).
-    /// Both lists must have room for these frames: the call allocates no memory.
+    /// the receive ring on, or in the slot in progress. The frames in the receive packet buffer follow.
+    ///
+    /// The rings, the data of offered transmit descriptors, and the pieces in these receive slots must be inside
+    /// memory, and so must the descriptor of the piece in progress. No frame may exceed 1,518 bytes. TDH must be the
+    /// index of a slot if a transmit slot is offered, and `oldest` if a receive slot is outstanding
+    /// (`specs/Pending.antt`). Both lists must have room for these frames: the call allocates no memory.
     pub fn pending(
         &self,
         memory: &HostMemory,
@@ -47,6 +50,7 @@ impl Adapter {
     }
 
     /// Appends to `holding` the frames that end in finished slots, from slot `oldest` on, or in the slot in progress.
+    /// The list must have room for these frames, and `CanReadHeld` must hold.
     fn append_in_slots(&self, memory: &HostMemory, oldest: u16, holding: &mut Vec<Frame>)
         requires can { CanReadHeld oldest (record { memory = memory.now; adapter = self.now }) }
         requires room { length holding.old.items
@@ -59,6 +63,7 @@ impl Adapter {
         let ring = self.file.receive_ring.ring();
         let mut begun: ArrayVec<u8, 1518> = ArrayVec::new();
         append_finished(memory, &ring, oldest, &mut begun, holding);
+        // The descriptor and the piece are inside memory, so `bytes_in_progress` never returns `None`.
         if let Some(work) = self.receiver.work()
             && let Some(bytes) = bytes_in_progress(memory, work)
         {
@@ -67,7 +72,7 @@ impl Adapter {
     }
 }
 
-/// Appends the frames in the transmit packet buffer, oldest first.
+/// Appends the frames in the transmit packet buffer, oldest first. The list must have room for these frames.
 fn append_to_put(engine: &TxEngine, frames: &mut Vec<Frame>)
     requires room { length frames.old.items + length engine.now.buffer ≤ vec_capacity frames.old }
     ensures frames { frames.new.items ≡ frames.old.items ++ map (λ queued. queued.frame) engine.now.buffer }
@@ -78,7 +83,7 @@ fn append_to_put(engine: &TxEngine, frames: &mut Vec<Frame>)
     }
 }
 
-/// Appends the frames in the receive packet buffer, oldest first.
+/// Appends the frames in the receive packet buffer, oldest first. The list must have room for these frames.
 fn append_buffered(engine: &RxEngine, frames: &mut Vec<Frame>)
     requires room { length frames.old.items + length engine.now.buffer ≤ vec_capacity frames.old }
     ensures frames { frames.new.items ≡ frames.old.items ++ engine.now.buffer }
@@ -89,7 +94,7 @@ fn append_buffered(engine: &RxEngine, frames: &mut Vec<Frame>)
     }
 }
 
-/// Appends a frame with these bytes.
+/// Appends a frame with these bytes, at most 1,518. The list must have room for this frame.
 fn append_frame(bytes: &[u8], frames: &mut Vec<Frame>)
     requires short { length bytes.now ≤ 1518 }
     requires room { length frames.old.items < vec_capacity frames.old }

@@ -36,7 +36,7 @@ impl Adapter {
 
     /// Performs a data step, which writes the next piece of the packet buffer's oldest frame to memory, does nothing,
     /// or is a fault. If a piece was written, and exactly half of the ring's descriptors are now offered, RXDMT0 is
-    /// recorded.
+    /// recorded. After a fault, data steps do nothing until a reset.
     pub(crate) fn move_piece(&mut self, memory: &mut HostMemory) -> Outcome<()>
         ensures answer { DataAnswers memory.old self.old (framed result self.old) }
         ensures state { self.new ≡ after_data (framed result self.old) self.old }
@@ -64,6 +64,7 @@ impl Adapter {
         ensures size { length memory.new ≡ length memory.old }
         ensures adapter { IsAdapter self.new }
     {
+        // `rx_done` removes the piece in progress, so this call is before `rx_done`.
         let ends = is_ending(&self.receiver);
         let answer = rx_done(&mut self.receiver, memory);
         self.file.note_finished(ends);

@@ -72,7 +72,8 @@ pub enum Register {
 impl Register {
     ghost use Rattle.adapter.specs.Table.{IsInTable, register_at};
 
-    /// Returns the register at an offset in bytes, or `None` if no register is at the offset.
+    /// Returns the register at an offset in bytes, or `None` if no register is at the offset. An index in the result is
+    /// inside its array (`IsInTable`).
     #[tactic(auto, unfolding(crate::specs::Table::register_at, crate::specs::Table::array_register_at))]
     #[inline(always)]
     pub fn at(offset: u32) -> Option<Register>
@@ -118,7 +119,7 @@ impl Register {
 }
 
 /// Returns the register `distance` bytes after RAL(0): RAL of entry `distance / 8` if `distance` is a multiple of 8,
-/// else RAH of this entry.
+/// else RAH of this entry. `distance` is below 128, the number of bytes of the 16 pairs.
 fn address_register(distance: u32) -> Register
     requires { distance < 128 }
     ensures even { distance % 8 ≡ 0 → result ≡ Register.Ral (distance / 8) }

@@ -18,7 +18,7 @@ const VLAN_TYPE_BITS: u32 = 0xFFFF;
 // In contracts, `with_file file rest` is an adapter with this register file. `rest` stands for its other parts.
 impl RegisterFile {
     /// Returns the value of a register, or 0 for `None`, ICS, IMC, STATUS and PBA. STATUS and PBA aren't in the
-    /// register file.
+    /// register file. An index in `register` must be inside its array.
     #[inline(always)]
     pub(crate) fn value(&self, register: Option<Register>) -> u32
         requires { IfSome register IsInTable }
@@ -52,7 +52,8 @@ impl RegisterFile {
     }
 
     /// Reads a register and returns its value, or 0 for `None`, ICS, IMC, STATUS and PBA. STATUS and PBA aren't in the
-    /// register file. A read of ICR or of a counter clears the register.
+    /// register file. A read of ICR or of a counter clears the register. An index in `register` must be inside its
+    /// array.
     #[inline(always)]
     pub(crate) fn read(&mut self, register: Option<Register>) -> u32
         requires { IfSome register IsInTable }
@@ -71,7 +72,8 @@ impl RegisterFile {
     }
 
     /// Writes a register, by the kept bits of its row or by its other rule. A write of CTRL ignores RST. A write of
-    /// STATUS, of PBA or of a counter changes nothing, and neither does `None`.
+    /// STATUS, of PBA or of a counter changes nothing, and neither does `None`. An index in `register` must be inside
+    /// its array.
     #[inline(always)]
     pub(crate) fn write(&mut self, register: Option<Register>, value: u32)
         requires { IfSome register IsInTable }

@@ -76,7 +76,7 @@ impl RegisterFile {
     ghost use Rattle.adapter.specs.View.{registers_at_reset, with_file};
 
     /// Returns the registers after power-on and after a reset, with the Ethernet address from the EEPROM in the first
-    /// pair of RAL and RAH.
+    /// pair of RAL and RAH. The clause `size` is true of each image, and is for the proofs of callers.
     pub(crate) fn at_reset(image: &Image) -> Self
         ensures registers { result ≡ registers_at_reset image.now }
         ensures size { length image.now ≡ 64 }
@@ -100,6 +100,7 @@ impl RegisterFile {
     /// Counts the arrival of a frame with this fate. If the frame is missed, MPC counts it, and RXO is recorded. If
     /// the frame is stored or missed while RDH equals RDT, RNBC counts it. Any other fate changes nothing.
     pub(crate) fn note_arrival(&mut self, fate: Fate)
+        // The registers depend on the fate only, so the clause holds for each frame.
         ensures { (frame : List ℕ) (rest : AdapterState)
             → self.new ≡ file_of (after_arrive fate frame (with_file self.old rest)) }
     {
@@ -189,7 +190,8 @@ impl RegisterFile {
 }
 
 /// Returns the filter after a reset: RAL(0) and RAH(0) contain the address in the EEPROM, with AV, and VET is the VLAN
-/// type of IEEE 802.1Q (our choice). The other registers of the filter are 0.
+/// type of IEEE 802.1Q (our choice). The other registers of the filter are 0. The clause `size` is for the proof of the
+/// caller.
 #[tactic(auto, using(crate::proofs::Words::and_address_high))]
 fn filter_at_reset(image: &Image) -> Filter
     ensures filter { result ≡ filter_at_reset image.now }

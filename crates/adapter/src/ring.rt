@@ -61,7 +61,7 @@ impl RingRegisters {
         }
     }
 
-    /// Writes a register: stores those bits of `value` that this register keeps.
+    /// Writes a register of the ring: stores the register's kept bits of `value`.
     pub(crate) fn write(&mut self, register: RingRegister, value: u32)
         ensures { self.new ≡ ring_written register value self.old }
     {

@@ -16,6 +16,6 @@ pub enum StepKind {
     RxDone,
     /// Ends a pending read of the EEPROM.
     EepromTick,
-    /// Decreases the PHY's running link countdown by 1, and then ends a pending command of MDIC.
+    /// Decreases the PHY's link countdown by 1 if it is running, and then ends a pending command of MDIC.
     PhyTick,
 }

@@ -18,7 +18,8 @@ use tx_engine::{Put, Take, put, take};
 
 impl Adapter {
     /// Performs a step `TxTake`, which copies the frame that the descriptor at TDH points to into the packet buffer,
-    /// does nothing, or is a fault. If a frame was copied, and TDH now equals TDT, TXQE is recorded.
+    /// does nothing, or is a fault. If a frame was copied, and TDH now equals TDT, TXQE is recorded. After a fault,
+    /// `TxTake` does nothing until a reset.
     pub(crate) fn take_frame(&mut self, memory: &HostMemory) -> Outcome<()>
         ensures answer { TakeAnswers memory.now self.old (framed result self.old) }
         ensures state { self.new ≡ after_take (framed result self.old) memory.now self.old }
@@ -43,9 +44,10 @@ impl Adapter {
         self.transmitter.front()
     }
 
-    /// Puts the oldest frame of the packet buffer onto the wire, if there is such a frame, and the wire has room. GPTC
-    /// counts the frame. If the frame's descriptor asks for a report, the step writes DD to this descriptor, if the
-    /// status byte is inside memory, and records TXDW.
+    /// Performs a step `TxPut`, which puts the oldest frame of the packet buffer onto the wire. GPTC counts the frame.
+    /// If the frame's descriptor asks for a report, the step records TXDW, and writes DD to the descriptor's status
+    /// byte if this byte is inside memory. Returns `Nothing` if the packet buffer is empty. Otherwise returns
+    /// `WireFull` if `wire_free` is false. In both cases, nothing changes.
     pub(crate) fn put_frame(&mut self, memory: &mut HostMemory, wire_free: bool) -> Outcome<()>
         ensures answer { PutAnswers wire_free self.old (framed result self.old) }
         ensures state { self.new ≡ after_put (framed result self.old) self.old }

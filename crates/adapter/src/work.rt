@@ -44,9 +44,9 @@ impl Adapter {
         !self.transmitter.is_empty()
     }
 
-    /// Returns whether the receive engine can begin a piece. RCTL.EN must be set, no fault may have stopped the
-    /// engine, and no piece may be in progress. A frame must be in the packet buffer, and a descriptor must be
-    /// offered.
+    /// Returns whether a step `RxData` would move a piece or be a fault: a frame is in the packet buffer, a descriptor
+    /// is offered, and RCTL.EN is set. If the result is true, no fault has stopped the engine, and no piece is in
+    /// progress.
     fn has_piece_to_move(&self) -> bool
         ensures { IsTrue result ↔ HasFrameAndDescriptor self.now }
     {

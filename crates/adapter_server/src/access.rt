@@ -15,7 +15,8 @@ use std::alloc::Global;
 use std::io::Write;
 
 /// Plays an access after the moves of the player, and answers the access. After the request `log targets`, the log's
-/// line of the access ends with the name of the access's target. `said` is the line of the request.
+/// line of the access ends with the name of the access's target. `said` is the line of the request. The bytes
+/// of the access must fit its place, and `into` must have the size of a read (`FitsTask`).
 fn access<W: Write>(
     session: &mut Session,
     alloc: Global,

@@ -16,7 +16,8 @@ use std::io::Write;
 /// Plays a task after the moves of the player, and answers the task.
 ///
 /// The player, if there is one, first meets the task, unless the task sets the clock. The bytes of a read are stored
-/// in `into`. `said` is the text that the log prints for the request.
+/// in `into`; other tasks don't use `into`. The bytes of an access must fit its place, and `into` must have the size of
+/// a read (`FitsTask`). `said` is the text that the log prints for the request.
 pub(crate) fn perform<W: Write>(
     session: &mut Session,
     alloc: Global,
@@ -45,8 +46,8 @@ pub(crate) fn perform<W: Write>(
     }
 }
 
-/// Answers `clock_step` or `clock_set`: settles, sets the clock to this time, and answers with this time. Refuses the
-/// request if `time` is `None`. `said` is the line of the request.
+/// Answers `clock_step` or `clock_set`: settles, sets the clock to this time, and answers with this time. If `time` is
+/// `None`, the time is too great, and the request is refused. `said` is the line of the request.
 fn move_clock<W: Write>(
     session: &mut Session,
     alloc: Global,
@@ -65,7 +66,7 @@ fn move_clock<W: Write>(
     done
 }
 
-/// Answers a request that a session answers. Writes nothing at `save` and `restore`, which the server answers.
+/// Answers a request that a session answers. Does nothing at `save` and `restore`, which the server answers.
 ///
 /// After the request `log targets`, the log's line of an access ends with the name of the access's target. `said` is
 /// the line of the request.
@@ -111,6 +112,7 @@ fn answer_session<W: Write>(
             move_clock(session, alloc, out, said, time)
         }
         Request::ClockSet(time) => {
+            // The clock never goes back.
             let time = session.clock.max(*time);
             move_clock(session, alloc, out, said, Some(time))
         }
@@ -140,7 +142,7 @@ impl Server {
         }
     }
 
-    /// Answers a line, or refuses a line that is too long. Does nothing at the end of the input.
+    /// Answers a line, or refuses a line that is too long or isn't a request. Does nothing at the end of the input.
     pub(crate) fn answer_next<W: Write>(
         &mut self,
         alloc: Global,

@@ -16,7 +16,8 @@ use server_output::{AnswerError, Faults, Kept};
 use std::alloc::{AllocError, Global};
 use step_schedules::Player;
 
-/// Returns a new adapter, whose PBA was written once, and whose MPC has the count of the options.
+/// Returns a new adapter with the EEPROM and the link of the options. PBA was written once, with the kilobytes of the
+/// options, and MPC has the count of the options.
 fn adapter_of(alloc: Global, options: &ServeOptions) -> Result<Adapter, AllocError>
     ensures { IfOk result (λ adapter. adapter ≡ adapter_of options.now) }
 {

@@ -39,7 +39,7 @@ fn say_enabled_steps<W: Write>(
 }
 
 /// Answers `target` with the name of the register or memory that an access of `count` bytes at this address reaches.
-/// Refuses if the access would be refused.
+/// Refuses the request if the access would be refused.
 fn say_target<W: Write>(
     session: &Session,
     alloc: Global,
@@ -93,6 +93,7 @@ pub(crate) fn look<W: Write>(
         Look::Digest => say_number(out, session.device.machine.digest()),
         Look::Frames => say_frames(alloc, out, &mut session.kept.put),
         Look::Faults => fetch_faults(session, alloc, out),
+        // Nothing changes, because changes of the interrupt line are always printed.
         Look::Intercept => say(out, b"OK\n"),
         Look::Enabled => say_enabled_steps(session, alloc, out),
         Look::Target(address, count) => say_target(session, alloc, out, address, count),

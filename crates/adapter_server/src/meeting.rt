@@ -14,8 +14,8 @@ use server_output::Answer;
 use std::alloc::{AllocError, Global};
 use step_schedules::{Agenda, Before};
 
-/// The agenda meets an access of a target with this name, or a request with this first word. Plays the moves before the
-/// access or request. Returns the number that the first due action chooses, or 0.
+/// Makes the agenda meet an access of a target with this name, or a request with this first word. Plays the moves
+/// before the access or request. Returns the number that the first due action chooses, or 0.
 fn meet_named<O: Observer>(
     device: &mut PlayedAdapter,
     agenda: &mut Agenda,
@@ -33,6 +33,7 @@ fn meet_named<O: Observer>(
     match before {
         Before::Read | Before::Write => device.meet_access(agenda, before, name, observer),
         Before::Request => device.meet_request(agenda, before, name, observer),
+        // A request for a number has no moves.
         Before::Choice => agenda.count(&event),
     }
     wanted
@@ -41,7 +42,8 @@ fn meet_named<O: Observer>(
 impl Session {
     ghost use Rattle.adapter_server.specs.Tasks.{task_begun};
 
-    /// The recorder, if there is a player, begins the event of a task, unless the task sets the clock.
+    /// Makes the recorder, if there is a player, begin the event of a task, unless the task sets the clock. Fails only
+    /// if memory is refused.
     #[inline]
     pub(crate) fn begin(&mut self, alloc: Global, task: Task<'_>) -> Result<(), AllocError>
         ensures { OnOk result (self.new ≡ task_begun task.entry self.old) }
@@ -66,8 +68,8 @@ impl<'a> Task<'a> {
     ghost use Rattle.adapter_server.specs.Tasks.{FitsTask, PlaysTo, task_agenda, task_moves, task_wanted};
     ghost use Rattle.server_output.specs.Answers.{IsSized};
 
-    /// The agenda, if there is one, meets the task, unless the task sets the clock. Plays the moves before the task.
-    /// Returns the number that is due at `choose` in a schedule, or 0.
+    /// Makes the agenda, if there is one, meet the task, unless the task sets the clock. Plays the moves before the
+    /// task. Returns the number that is due at `choose` in a schedule, or 0.
     fn meet<O: Observer>(
         self,
         device: &mut PlayedAdapter,
@@ -94,8 +96,8 @@ impl<'a> Task<'a> {
         }
     }
 
-    /// The agenda, if there is one, meets the task, as [`meet`](Task::meet). Then the task is played, as
-    /// [`play`](Task::play). Returns the answer.
+    /// Makes the agenda, if there is one, meet the task, as [`meet`](Task::meet) does. Then plays the task, and returns
+    /// the answer, as [`play`](Task::play) does. The precondition and the error are those of `play`.
     pub(crate) fn perform<'b, O: Observer>(
         self,
         alloc: Global,

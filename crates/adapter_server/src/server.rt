@@ -33,7 +33,7 @@ fn answer_and_send<W: Write>(
     send(output)
 }
 
-/// Answers each line of the input before reading the next line.
+/// Answers each line of the input before reading the next line. The errors are those of [`serve`].
 #[tactic(auto, using(crate::proofs::ServedLines::never_read))]
 fn serve_lines<R: BufRead, W: Write>(
     server: &mut Server,
@@ -56,6 +56,7 @@ fn serve_lines<R: BufRead, W: Write>(
         }
         answer_and_send(server, alloc, output, next, line.as_slice())?;
     }
+    // The input had a line for each of the 2^64 - 1 turns.
     Err(ServeError::Read)
 }
 

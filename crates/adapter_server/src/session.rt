@@ -43,7 +43,8 @@ pub enum Place {
     Memory,
 }
 
-/// Whether some of the `count` bytes from an address on are bytes of registers.
+/// Returns whether some of the `count` bytes from an address on are bytes of registers. `registers` is the address of
+/// the first register.
 fn meets_registers(registers: u64, address: u64, count: u64) -> bool
     ensures { result ≡ meets_registers registers address count }
 {
@@ -54,6 +55,7 @@ fn meets_registers(registers: u64, address: u64, count: u64) -> bool
 }
 
 /// Returns the register's offset for an access of four bytes at an aligned address among the registers, else `None`.
+/// `registers` is the address of the first register.
 fn register_at(registers: u64, address: u64, count: u64) -> Option<u32>
     ensures { result ≡ (if is_register registers address count then Some (address - registers) else None) }
 {
@@ -71,7 +73,8 @@ fn register_at(registers: u64, address: u64, count: u64) -> Option<u32>
 /// Returns the target of an access of `count` bytes at an address, or why the access is refused.
 ///
 /// `registers` is the address of the first register, or `None` if no address reaches registers. `in_memory` is true if
-/// memory contains all bytes of the access.
+/// memory contains all bytes of the access. If memory also contains bytes of registers, an access of four aligned bytes
+/// reaches the register, and any other access reaches memory.
 fn place_with(
     registers: Option<u64>,
     in_memory: bool,
@@ -115,7 +118,7 @@ impl Session {
         })
     }
 
-    /// Whether a schedule is played.
+    /// Returns whether a schedule is played.
     pub(crate) fn plays_schedule(&self) -> bool
         ensures { result ≡ plays_schedule self.now }
     {

@@ -61,7 +61,8 @@ fn register_value(bytes: &[u8]) -> u32
     u32::from_le_bytes(all)
 }
 
-/// Serves a read of bytes at a place. Stores the bytes in `into`.
+/// Serves a read of bytes at a place: plays what the generator draws, reads the bytes into `into`, and plays cycles. A
+/// read of a register needs 4 bytes in `into`. Memory must contain all bytes that are read from it.
 fn read_from<O: Observer>(
     device: &mut PlayedAdapter,
     place: Place,
@@ -82,7 +83,8 @@ fn read_from<O: Observer>(
     }
 }
 
-/// Serves a write of bytes at a place.
+/// Serves a write of bytes at a place: plays what the generator draws, writes the bytes, and plays cycles. A register
+/// takes 4 bytes. Memory must contain the places of all bytes that are written to it.
 fn write_to<O: Observer>(
     device: &mut PlayedAdapter,
     place: Place,
@@ -147,7 +149,9 @@ impl<'a> Task<'a> {
 
     /// Plays a task, and returns the answer.
     ///
-    /// The bytes of a read are stored in `into`. `wanted` is the number that is due at `choose` in a schedule, or 0.
+    /// The bytes of a read are stored in `into`; other tasks don't use `into`. The bytes of an access must fit its
+    /// place, and `into` must have the size of a read (`FitsTask`). `wanted` is the number that is due at `choose` in a
+    /// schedule, or 0. Fails only if memory is refused for an offered frame.
     pub(crate) fn play<'b, O: Observer>(
         self,
         alloc: Global,

@@ -57,7 +57,7 @@ writes_before_rings config address groups vlans =
     ++ (table_writes VFTA vlans
     ++ address_writes address))))
 
--- The writes of the rings and those after them.
+-- The writes of the rings, RCTL, TCTL and IMS.
 abbrev pub writes_from_rings : Config → List Write
 writes_from_rings config =
     ring_setup_writes RDBAL 0 (descriptor_bytes * config.rx)
@@ -67,6 +67,7 @@ writes_from_rings config =
     ++ (transmit_writes
     ++ mask_writes))))
 
+-- All writes of initialization.
 abbrev pub all_writes : Config → (address groups vlans : List ℕ) → List Write
 all_writes config address groups vlans = writes_before_rings config address groups vlans ++ writes_from_rings config
 
@@ -96,9 +97,11 @@ pub record HasSetup (setup : DriverSetup) (adapter : AdapterState) : Type 0 wher
 
 -- The receive filter has the setup of the configuration, and MTA has the bits of the configured groups.
 pub record FilterIsConfigured (config : Config) (address : List ℕ) (filter : FilterRegisters) : Type 0 where
+  -- all registers of the filter except MTA
   pub setup : FilterHasSetup (setup_of config address) filter
   -- MTA has the bits of the configured groups, and no others.
   pub groups : HasNumbers filter.mta (numbers_of_groups config.groups.items)
+  -- each word of MTA has 32 bits
   pub group_words : AreWords filter.mta
 
 -- The registers of a ring contain the base `base`, the size of `count` slots, and the tail `tail`. The head isn't
@@ -113,6 +116,7 @@ pub record RingIsConfigured (base count tail : ℕ) (registers : RingRegisters) 
 pub record IsConfigured (config : Config) (address : List ℕ) (settings : Settings) : Type 0 where
   -- CTRL contains SLU and ASDE, and no other bit
   pub device_control : settings.device_control ≡ link_control
+  -- RCTL, the receive addresses, MTA, VFTA and VET
   pub filter : FilterIsConfigured config address settings.filter
   -- TCTL has the value that enables the transmitter
   pub transmit_control : settings.transmit_control ≡ transmit_control

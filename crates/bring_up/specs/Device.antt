@@ -52,7 +52,8 @@ IsErrorOfLively NoLink before = HasRightSum before.adapter.image × NeedsMoreTha
 IsErrorOfLively Memory before = ⊤
 IsErrorOfLively errors.Config before = ⊤
 
--- `find_device` was called, with this result.
+-- `find_device` was called, with this result. If the result is Ok, `IsFound` holds. If the result is an error, `IsErrorOf` holds, and over
+-- a lively bus also `IsErrorOfLively`.
 pub record FindsDevice {B : Type 0} (bus : Ghosts B) (kilobytes : ℕ) (result : Result (List ℕ) InitError) (old new : B) : Type 0 where
   pub past : Past
   pub reports : bus.happened old new past

@@ -77,14 +77,16 @@ pub record EnablesCauses {B : Type 0} (bus : Ghosts B) (causes : ℕ) (d : Drive
   pub accessed : MakesAccesses bus (Writes IMS causes ∷ []) old new
   -- the world right before the write takes effect
   pub middle : World
+  -- what changes from the start of the call to `middle`; no recorded cause is cleared
   pub goes : Goes (driver_in d (bus.world old)) (driver_in d middle) (driver_did [] []) accessed.past
+  -- the write itself, from `middle` to the end of the call
   pub enabled : Enabled true d causes middle (bus.world new)
   -- The driver is ready, the frames that were stored in the interval are held after those that were held before, and
   -- RXT0 is enabled.
   pub ready : Ready d (bus.world new)
   pub holds : frames_held d.oldest_receive (bus.world new) ≡ frames_held d.oldest_receive (bus.world old) ++ accessed.past.stored
   pub mask : HasBit (bus.world new).adapter.causes.mask rxt0
-  -- No work is forgotten if no frame ended in finished slots before, or RXT0 was recorded.
+  -- No work is forgotten after the call if, before the call, no frame ended in finished slots, or RXT0 was recorded.
   pub work : (frames_ended (driver_in d (bus.world old)) ≡ []) ⊎ HasBit (bus.world old).adapter.causes.recorded rxt0
       → HasNoForgottenWork d (bus.world new)
 
@@ -100,7 +102,9 @@ pub record ResetsDriver {B : Type 0} (bus : Ghosts B) (up : Bool) (pool : List �
   -- the world right before the write of CTRL takes effect: the frames that are held or to be sent in this world are
   -- lost
   pub last : World
+  -- what changes from the start of the call to `last`; no recorded cause is cleared
   pub goes : GoesTo up (driver_in d (bus.world old)) (driver_in d last) (driver_did [] []) first.past
+  -- the write of CTRL itself, from `last` to `middle`
   pub is_reset : bus.world middle ≡ reset_world last
   -- After the write of CTRL, no frame is put on the wire, stored or missed, and the driver has no slots.
   pub no_frame : NoFrame later.past

@@ -12,7 +12,7 @@ use Rattle.bring_up.specs.SettingSteps.{Sets}
 -- MTA is written with exactly the bits of the groups `named`, and VFTA with exactly those of the VLANs `named_vlans`.
 -- Then the receive addresses are written with `address`. There is no other access.
 pub record SetsFilter {B : Type 0} (bus : Ghosts B) (named : List (List ℕ)) (named_vlans address : List ℕ) (old new : B) : Type 0 where
-  -- the words of both tables
+  -- the words written to MTA, and those written to VFTA
   pub groups : List ℕ
   pub vlans : List ℕ
   pub sets : Sets bus (table_writes MTA groups ++ (table_writes VFTA vlans ++ address_writes address)) old new

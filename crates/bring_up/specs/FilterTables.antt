@@ -13,7 +13,7 @@ abbrev pub table_writes : ℕ → List ℕ → List Write
 table_writes offset [] = []
 table_writes offset (word ∷ later) = write_at offset word ∷ table_writes (offset + REGISTER_BYTES) later
 
--- The writes of RAL and RAH of one entry of the receive addresses.
+-- The writes of the words `low` and `high` to RAL and RAH of one entry of the receive addresses.
 abbrev pub entry_writes : ℕ → ℕ → ℕ → List Write
 entry_writes entry low high =
     write_at (RAL + ADDRESS_PAIR_BYTES * entry) low ∷ write_at (RAL + REGISTER_BYTES + ADDRESS_PAIR_BYTES * entry) high ∷ []

@@ -109,8 +109,8 @@ ChangesGroups bus result kept group groups groups' old new =
     (up : Bool) (d : DriverState) → IsReadyOver bus up (at old d)
     → OnOk result (ChangesJoined bus up kept group (at old (with_groups groups d)) (at new (with_groups groups' d)))
 
--- The only access wrote the word of the group table that contains this group's bit, with exactly the bits of the numbers of `groups`. The
--- other words of the table are the same.
+-- The only access wrote `value` to the word of the group table that contains the bit of `group`. The value has exactly those bits of the
+-- numbers of `groups` that are in this word. The other words of the table are the same.
 pub record RewritesWord {B : Type 0} (bus : Ghosts B) (up : Bool) (group : List ℕ) (groups : List (List ℕ)) (d : DriverState) (old new : B)
     : Type 0 where
   pub value : ℕ

@@ -66,8 +66,11 @@ pub record EndsCommand (lively : Type 0) (word all : ℕ) (a b : Management) (an
   -- the PHY after the tick that ends the command
   pub phy : PhyState
   pub counted : phy ≡ after_tick (iterate phy_ticked ticks.before a).phy
+  -- the value of MDIC when this command ends with this PHY
   pub answers : answer ≡ ended (operation_of word) (kept_bits word) phy
+  -- MDIC contains this value, and no command is pending
   pub mdic : b.mdic ≡ record { value = answer; pending = None }
+  -- the PHY after the command and the later ticks
   pub leaves : b.phy ≡ iterate after_tick ticks.later (phy_ended (operation_of word) (kept_bits word) phy)
 
 -- A command is written to MDIC, and its end is awaited, with this result.

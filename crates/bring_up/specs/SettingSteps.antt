@@ -34,8 +34,8 @@ RecordsNoCause past = All RecordsNone (writes_in past.accesses)
 
 -- The call makes these writes in this order, and may also read registers, load and store. The settings change only by
 -- these writes, whatever else happens. If RCTL and the rings' registers aren't written, an adapter at rest remains at
--- rest. Then no frame is put on the wire, stored or missed, and memory doesn't change. If CTRL and MDIC aren't
--- written, the link is up, and no MDIC command is pending, both remain true.
+-- rest. Then no frame is put on the wire, stored or missed, and memory doesn't change. Let the link be up, and no MDIC
+-- command be pending. Both remain true if neither CTRL nor MDIC is written.
 pub record Sets {B : Type 0} (bus : Ghosts B) (writes : List Write) (old new : B) : Type 0 where
   pub past : Past
   pub reports : bus.happened old new past
@@ -50,7 +50,7 @@ pub record SetsOnly {B : Type 0} (bus : Ghosts B) (writes : List Write) (old new
   pub sets : Sets bus writes old new
   pub only : sets.past.accesses ≡ accesses_of writes
 
--- One write of a register: steps and deliveries may happen before it, and there is no other access.
+-- One write of a register. Adapter steps and deliveries may happen before the write, and there is no other access.
 abbrev pub WriteActs : {B : Type 0} → Ghosts B → (old new : B) → (offset value : ℕ) → Type 0
 WriteActs bus old new offset value =
     Acts (view_of bus) old new (Writes offset value) (λ before after. after ≡ world_after_write offset value before)

@@ -17,7 +17,7 @@ pub const MOST_VLANS: usize = 32;
 /// The greatest number of kilobytes of the packet buffer for received frames (our choice).
 const MOST_RECEIVE_KILOBYTES: u8 = 48;
 
-/// The number of VLANs: a VLAN identifier has 12 bits (IEEE 802.1Q).
+/// The number of VLAN identifiers: an identifier has 12 bits (IEEE 802.1Q).
 const VLAN_NUMBERS: u16 = 4096;
 
 /// The configuration with which an adapter is initialized.
@@ -49,7 +49,7 @@ impl Config {
     ///
     /// # Errors
     ///
-    /// [`Config`](InitError::Config) exactly if the configuration isn't valid in such a memory.
+    /// E15 [`Config`](InitError::Config) exactly if the configuration isn't valid in such a memory.
     pub fn layout(&self, size: u64) -> Result<Layout, InitError>
         ensures ok { IsOk result ↔ CanBeHad self.now size }
         ensures counts { IfOk result (λ layout. layout ≡ configured_counts self.now) }

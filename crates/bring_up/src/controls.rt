@@ -17,9 +17,10 @@ use bitflags::Flags;
 use bus::Bus;
 use registers::{Cause, Ctrl};
 
-/// Resets the device, disables all interrupt causes and clears the recorded causes ("14.3 General Initialization"). If
-/// a driver was ready before, all buffers of its slots are free after the reset: `pool` contains them and the free
-/// buffers, in any order. Pieces of frames that others hold are still in their buffers.
+/// Resets the device, disables all interrupt causes and clears the recorded causes ("14.3 General Initialization").
+/// After the call, the adapter is at rest (`IsAtRest`). If a driver was ready before, the buffers of its slots are free
+/// after the call. `pool` then contains all free buffers, in any order. Pieces of frames that others hold are still in
+/// their buffers.
 pub fn reset_device<B: Bus>(bus: &mut B)
     ensures keeps { Keeps B.Bus bus.old bus.new }
     ensures sets { B.honest bus.old → Sets B.Bus reset_writes bus.old bus.new }
@@ -30,11 +31,12 @@ pub fn reset_device<B: Bus>(bus: &mut B)
 {
     bus.write(CTRL, Ctrl::RST.bits());
     bus.write(IMC, u32::MAX);
+    // This read clears all recorded causes.
     bus.read(ICR);
 }
 
-/// Assigns `kilobytes` of the packet buffer to received frames (PBA.RXA). The adapter ignores a number that isn't even
-/// or isn't from 2 to 48.
+/// Assigns `kilobytes` of the packet buffer to received frames (PBA.RXA). The adapter accepts an even number from 2 to
+/// 48, and ignores any other.
 pub fn allocate_packet_buffer<B: Bus>(bus: &mut B, kilobytes: u8)
     ensures keeps { Keeps B.Bus bus.old bus.new }
     ensures sets { B.honest bus.old → SetsOnly B.Bus (allocation_writes kilobytes) bus.old bus.new }
@@ -67,7 +69,7 @@ pub fn interrupt_causes() -> Cause
 }
 
 /// Enables the causes that a driver handles. A driver that is ready with its transmit side set up remains ready. No
-/// work is forgotten after the write if no frame ended in finished slots before the write, or RXT0 was recorded.
+/// work is forgotten after the call if, before the call, no frame ended in finished slots, or RXT0 was recorded.
 pub fn enable_interrupts<B: Bus>(bus: &mut B)
     ensures keeps { Keeps B.Bus bus.old bus.new }
     ensures sets { B.honest bus.old → SetsOnly B.Bus mask_writes bus.old bus.new }

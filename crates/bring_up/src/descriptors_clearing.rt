@@ -13,8 +13,8 @@ use dma_memory::DESCRIPTOR_BYTES;
 /// The 16 bytes of a cleared descriptor, all 0.
 const CLEAR: [u8; 16] = [0; 16];
 
-/// Clears the descriptor at an address, by one store of 16 bytes of value 0. A driver that is ready remains ready in
-/// these cases.
+/// Clears the descriptor at an address, by one store of 16 bytes of value 0. The descriptor must be inside memory. A
+/// driver that is ready remains ready in three cases.
 /// - `sent`: the descriptor belongs to the transmit ring, and the transmit side is off.
 /// - `received`: the descriptor is that of the last receive slot, and the driver's oldest receive slot is slot 0.
 /// - `spare`: the descriptor is that of a receive slot that is neither outstanding nor staged, and the driver's oldest
@@ -36,7 +36,8 @@ pub fn clear_descriptor<B: Bus>(bus: &mut B, address: u64)
     bus.store(address, &CLEAR);
 }
 
-/// Clears `count` descriptors from an address on, by one store each. A driver that is ready remains ready in two cases.
+/// Clears `count` descriptors from the address `first` on, by one store each. The descriptors must be inside memory,
+/// and end below address 2^64. A driver that is ready remains ready in two cases.
 /// - `ran`: the descriptors are the first descriptors of the transmit ring, and the transmit side is off.
 /// - `spare`: the descriptors are those of receive slots that are neither outstanding nor staged, and the driver's
 ///   oldest receive slot is slot 0.

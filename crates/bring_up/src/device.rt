@@ -12,15 +12,18 @@ use bus::Bus;
 use registers::{Image, checksum_ok};
 
 /// Resets the device, reads its EEPROM, assigns `kilobytes` of the packet buffer to received frames, and enables the
-/// link. Then starts negotiation, and waits until the link is up and negotiated. Returns the image of the EEPROM.
+/// link. Then starts negotiation, and waits until the link is up and negotiated. Returns the image of the EEPROM. Over
+/// a lively bus that obeys the law, E11 and E13 don't occur, and E14 only if the link needs more than 2,000 ticks or is
+/// never up.
 ///
 /// # Errors
 ///
-/// - [`EepromTimeout`](InitError::EepromTimeout): 1,000 reads of EERD for one word didn't show DONE.
-/// - [`Checksum`](InitError::Checksum): the image's checksum is wrong.
-/// - [`PhyTimeout`](InitError::PhyTimeout): for a command to the PHY, 1,000 reads of MDIC didn't show R, or one showed
-///   R and E.
-/// - [`NoLink`](InitError::NoLink): none of 1,000 reads of the PHY's status showed a link that is up and negotiated.
+/// - E11 [`EepromTimeout`](InitError::EepromTimeout): 1,000 reads of EERD for one word didn't show DONE.
+/// - E12 [`Checksum`](InitError::Checksum): the image's checksum is wrong.
+/// - E13 [`PhyTimeout`](InitError::PhyTimeout): for a command to the PHY, 1,000 reads of MDIC didn't show R, or one
+///   showed R and E.
+/// - E14 [`NoLink`](InitError::NoLink): none of 1,000 reads of the PHY's status showed a link that is up and
+///   negotiated.
 pub fn find_device<B: Bus>(bus: &mut B, kilobytes: u8) -> Result<Image, InitError>
     ensures keeps { Keeps B.Bus bus.old bus.new }
     ensures errors { IfErr result (λ error. ¬ (IsBeforeAccess error)) }

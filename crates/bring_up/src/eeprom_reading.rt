@@ -27,7 +27,7 @@ const DATA_SHIFT: u32 = 16;
 ///
 /// # Errors
 ///
-/// [`EepromTimeout`](InitError::EepromTimeout) if 1,000 reads of EERD for one word didn't show DONE.
+/// E11 [`EepromTimeout`](InitError::EepromTimeout) if 1,000 reads of EERD for one word didn't show DONE.
 pub fn read_image<B: Bus>(bus: &mut B) -> Result<Image, InitError>
     ensures keeps { Keeps B.Bus bus.old bus.new }
     ensures only { IsOkUnless result InitError.EepromTimeout }
@@ -36,13 +36,14 @@ pub fn read_image<B: Bus>(bus: &mut B) -> Result<Image, InitError>
 {
     let mut words = [0; WORDS];
     for address in 0..WORDS {
+        // An address is below 64, so it fits into 8 bits.
         words[address] = read_word(bus, address as u8)?;
     }
     Ok(Image::from_words(words))
 }
 
-/// Reads the word of the EEPROM at this address. An adapter answers FFFFh for an address above 63 (our choice). Returns
-/// an error if 1,000 reads of EERD didn't show DONE.
+/// Reads the word of the EEPROM at this address. For an address above 63, the word is FFFFh (our choice). Returns E11
+/// if 1,000 reads of EERD didn't show DONE. Over a lively bus that obeys the law, no timeout occurs.
 fn read_word<B: Bus>(bus: &mut B, address: u8) -> Result<u16, InitError>
     ensures keeps { Keeps B.Bus bus.old bus.new }
     ensures only { IsOkUnless result InitError.EepromTimeout }

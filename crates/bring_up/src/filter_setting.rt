@@ -12,7 +12,7 @@ use arrayvec::ArrayVec;
 use bus::Bus;
 
 /// Sets up the receive filter. Writes the group table with the bits of these groups, and the VLAN table with the bits
-/// of these VLANs, each below 4,096. Then writes this address as the only receive address.
+/// of these VLANs, whose numbers must be below 4,096. Then writes this address as the only receive address.
 pub fn set_filter<B: Bus>(bus: &mut B, groups: &[[u8; 6]], vlans: &[u16], address: &[u8; 6])
     requires { All (λ vlan. vlan < table_numbers) vlans.now }
     ensures keeps { Keeps B.Bus bus.old bus.new }

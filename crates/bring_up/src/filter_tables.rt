@@ -45,7 +45,7 @@ fn empty_table() -> [u32; TABLE_WORDS]
     [0; TABLE_WORDS]
 }
 
-/// Sets the bit of a number below 4,096.
+/// Sets the bit of a number in a table. The number must be below 4,096.
 fn add_number(table: &mut [u32; TABLE_WORDS], number: u16)
     requires { number < table_numbers }
     ensures { table.new ≡ with_number table.old number }
@@ -54,7 +54,7 @@ fn add_number(table: &mut [u32; TABLE_WORDS], number: u16)
     table[usize::from(bit.word)] |= bit.mask;
 }
 
-/// Writes the group table, MTA.
+/// Writes the group table, MTA. `words`: each word has 32 bits.
 pub fn write_groups<B: Bus>(bus: &mut B, table: &[u32; TABLE_WORDS])
     ensures keeps { Keeps B.Bus bus.old bus.new }
     ensures sets { B.honest bus.old → SetsOnly B.Bus (table_writes MTA table.now) bus.old bus.new }
@@ -63,7 +63,7 @@ pub fn write_groups<B: Bus>(bus: &mut B, table: &[u32; TABLE_WORDS])
     write_table(bus, MTA, table);
 }
 
-/// Writes the VLAN table, VFTA.
+/// Writes the VLAN table, VFTA. `words`: each word has 32 bits.
 pub fn write_vlans<B: Bus>(bus: &mut B, table: &[u32; TABLE_WORDS])
     ensures keeps { Keeps B.Bus bus.old bus.new }
     ensures sets { B.honest bus.old → SetsOnly B.Bus (table_writes VFTA table.now) bus.old bus.new }
@@ -73,6 +73,7 @@ pub fn write_vlans<B: Bus>(bus: &mut B, table: &[u32; TABLE_WORDS])
 }
 
 /// Writes the receive addresses, RAL and RAH: this address and AV into the first entry, and 0 into the other 15.
+/// `address`: the address has six bytes.
 pub fn write_addresses<B: Bus>(bus: &mut B, address: &[u8; 6])
     ensures keeps { Keeps B.Bus bus.old bus.new }
     ensures sets { B.honest bus.old → SetsOnly B.Bus (address_writes address.now) bus.old bus.new }
@@ -84,7 +85,7 @@ pub fn write_addresses<B: Bus>(bus: &mut B, address: &[u8; 6])
     }
 }
 
-/// Writes RAL and RAH of one entry of the receive addresses.
+/// Writes RAL and RAH of one entry, from 0 to 15, of the receive addresses.
 fn write_address<B: Bus>(bus: &mut B, entry: u32, words: AddressWords)
     requires { entry < RECEIVE_ADDRESSES }
     ensures keeps { Keeps B.Bus bus.old bus.new }
@@ -95,7 +96,8 @@ fn write_address<B: Bus>(bus: &mut B, entry: u32, words: AddressWords)
     bus.write(low + REGISTER_BYTES, words.high);
 }
 
-/// Writes a table of 128 words to consecutive registers, from an offset on.
+/// Writes a table of 128 words to consecutive registers, from the offset `first` on. `first` must be below 65,536, so
+/// that no offset overflows. `words`: each word has 32 bits.
 fn write_table<B: Bus>(bus: &mut B, first: u32, words: &[u32; TABLE_WORDS])
     requires { first < 2 ^ 16 }
     ensures keeps { Keeps B.Bus bus.old bus.new }

@@ -92,7 +92,7 @@ impl Groups {
         self.list.as_slice()
     }
 
-    /// Returns whether a group is joined.
+    /// Returns whether a group is joined. `joined` states the invariant of the list.
     pub fn contains(&self, group: &[u8; 6]) -> bool
         ensures is { IsTrue result ↔ Contains self.now group.now }
         ensures joined { AreJoined self.now }
@@ -100,7 +100,8 @@ impl Groups {
         self.place_of(group).is_some()
     }
 
-    /// Returns the place of a group in the list, or `None` if the group isn't joined.
+    /// Returns the place of a group in the list, or `None` if the group isn't joined. `joined` states the invariant of
+    /// the list.
     fn place_of(&self, group: &[u8; 6]) -> Option<usize>
         ensures some { IfSome result (λ place. slice_get self.now place ≡ Some group.now) }
         ensures none { IfNone result (¬ (Contains self.now group.now)) }
@@ -206,8 +207,8 @@ impl Groups {
     }
 }
 
-/// Writes the word of the group table that contains the bit of a group's number. The word gets exactly the bits of
-/// these groups.
+/// Writes the word of the group table that contains the bit of the number of `group`. The word gets the bits of the
+/// numbers of `groups`, and no others.
 fn write_word<B: Bus>(bus: &mut B, groups: &[[u8; 6]], group: &[u8; 6])
     ensures keeps { Keeps B.Bus bus.old bus.new }
     ensures rewrites { (up : Bool) (d : DriverState) → IsReadyOver B.Bus up (at bus.old d)
@@ -218,7 +219,8 @@ fn write_word<B: Bus>(bus: &mut B, groups: &[[u8; 6]], group: &[u8; 6])
     set_word(bus, word, table[usize::from(word)]);
 }
 
-/// Writes a word of the group table. `fits`: the value has 32 bits, as each word of the table.
+/// Writes the word of the group table with this index, which must be below 128. No other word changes. `fits`: the
+/// value has 32 bits.
 fn set_word<B: Bus>(bus: &mut B, word: u8, value: u32)
     requires { word < TABLE_WORDS }
     ensures keeps { Keeps B.Bus bus.old bus.new }

@@ -42,27 +42,29 @@ const NEGOTIATED: u32 = 1 << 5;
 /// The link is up: bit 2 of the PHY's register 1.
 const LINK: u32 = 1 << 2;
 
-/// Enables and restarts the PHY's autonegotiation.
+/// Enables and restarts the PHY's autonegotiation. Over a lively bus that obeys the law, no error occurs.
 ///
 /// # Errors
 ///
-/// [`PhyTimeout`](InitError::PhyTimeout) if 1,000 reads of MDIC didn't show R, or one showed R and E.
+/// E13 [`PhyTimeout`](InitError::PhyTimeout) if 1,000 reads of MDIC didn't show R, or one showed R and E.
 pub fn negotiate<B: Bus>(bus: &mut B) -> Result<(), InitError>
     ensures keeps { Keeps B.Bus bus.old bus.new }
     ensures error { IsOkUnless result InitError.PhyTimeout }
     ensures negotiates { B.honest bus.old → Negotiates B.Bus result bus.old bus.new }
 {
+    // REGADD is 0: the PHY's register 0, its control register.
     command(bus, OP_WRITE | PHY_ADDRESS | ENABLE | RESTART)?;
     Ok(())
 }
 
-/// Waits until the PHY's status shows a link that is up and negotiated, for at most 1,000 reads of the status.
+/// Waits until the PHY's status shows a link that is up and negotiated, for at most 1,000 reads of the status. Over a
+/// lively bus that obeys the law, E13 doesn't occur.
 ///
 /// # Errors
 ///
-/// - [`NoLink`](InitError::NoLink): none of these reads showed a link that is up and negotiated.
-/// - [`PhyTimeout`](InitError::PhyTimeout): for a read of the status, 1,000 reads of MDIC didn't show R, or one showed
-///   R and E.
+/// - E14 [`NoLink`](InitError::NoLink): none of these reads showed a link that is up and negotiated.
+/// - E13 [`PhyTimeout`](InitError::PhyTimeout): for a read of the status, 1,000 reads of MDIC didn't show R, or one
+///   showed R and E.
 pub fn await_link<B: Bus>(bus: &mut B) -> Result<(), InitError>
     ensures keeps { Keeps B.Bus bus.old bus.new }
     ensures errors { IfErr result (λ error. (error ≡ InitError.PhyTimeout) ⊎ (error ≡ InitError.NoLink)) }
@@ -84,11 +86,12 @@ fn shows_link(status: u32) -> bool
     status & NEGOTIATED != 0 && status & LINK != 0
 }
 
-/// Writes a command to MDIC, and waits until it has ended. Returns the last value that was read from MDIC.
+/// Writes a command to MDIC, and waits until the command has ended. The command must be one of the two of
+/// initialization (`IsCommand`). Returns the last value that was read from MDIC.
 ///
 /// # Errors
 ///
-/// [`PhyTimeout`](InitError::PhyTimeout) if 1,000 reads of MDIC didn't show R, or one showed R and E.
+/// E13 [`PhyTimeout`](InitError::PhyTimeout) if 1,000 reads of MDIC didn't show R, or one showed R and E.
 fn command<B: Bus>(bus: &mut B, word: u32) -> Result<u32, InitError>
     requires { IsCommand word }
     ensures keeps { Keeps B.Bus bus.old bus.new }

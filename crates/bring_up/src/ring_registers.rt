@@ -29,13 +29,13 @@ const COLLISION_DISTANCE: u32 = 0x40 << 12;
 /// The distance of RDBAH from RDBAL, and of TDBAH from TDBAL, in bytes.
 const BASE_HIGH: u32 = RDBAH - RDBAL;
 
-/// The distance of a ring's length from RDBAL or TDBAL.
+/// The distance of RDLEN from RDBAL, and of TDLEN from TDBAL, in bytes.
 const LENGTH: u32 = RDLEN - RDBAL;
 
-/// The distance of a ring's head from RDBAL or TDBAL.
+/// The distance of RDH from RDBAL, and of TDH from TDBAL, in bytes.
 const HEAD: u32 = RDH - RDBAL;
 
-/// The distance of a ring's tail from RDBAL or TDBAL.
+/// The distance of RDT from RDBAL, and of TDT from TDBAL, in bytes.
 const TAIL: u32 = RDT - RDBAL;
 
 /// The number of values of a 32-bit register.
@@ -64,9 +64,10 @@ pub fn set_receive_ring<B: Bus>(bus: &mut B, ring: RingPlace)
     write_ring(bus, RDBAL, ring);
 }
 
-/// Sets up the transmit ring, with no slot offered. Before the call, let a driver be ready with its transmit side off.
-/// The driver remains ready if the registers of the transmit ring have their reset values and `ring` is at its place
-/// in the layout (`CanSetTransmitRing`). After the writes, the transmit ring agrees with this driver.
+/// Sets up the transmit ring, with no slot offered. Before the call, let a driver be ready with its transmit side off,
+/// and the registers of the transmit ring have their reset values. Let slot 0 be the driver's oldest transmit slot, and
+/// `ring` be at its place in the layout, whose ring sizes are valid (`CanSetTransmitRing`). Then the driver remains
+/// ready. After the writes, the transmit ring agrees with this driver.
 pub fn set_transmit_ring<B: Bus>(bus: &mut B, ring: RingPlace)
     ensures keeps { Keeps B.Bus bus.old bus.new }
     ensures sets { B.honest bus.old → SetsOnly B.Bus (ring_setup_writes TDBAL ring.base ring.bytes) bus.old bus.new }
@@ -77,7 +78,8 @@ pub fn set_transmit_ring<B: Bus>(bus: &mut B, ring: RingPlace)
     write_ring(bus, TDBAL, ring);
 }
 
-/// Writes the registers of a ring, with 0 as head and tail. `first` is the offset of RDBAL or TDBAL.
+/// Writes the registers of a ring, with 0 as head and tail. `first` is the offset of RDBAL or TDBAL. It must be at most
+/// TDBAL, so that no offset overflows.
 fn write_ring<B: Bus>(bus: &mut B, first: u32, ring: RingPlace)
     requires { first ≤ TDBAL }
     ensures keeps { Keeps B.Bus bus.old bus.new }
@@ -111,8 +113,8 @@ pub struct FilterModes {
 }
 
 /// Enables the receiver in these modes, with broadcast frames and buffers of 256 bytes. Let a driver be ready with its
-/// transmit side off, RCTL.EN be 0, and no frame be held. Then the driver remains ready, and no frame is held after the
-/// write.
+/// transmit side off, RCTL.EN be 0, and no frame be held. Then the driver remains ready. During the call no frame is
+/// stored or missed, and after the call no frame is held and no receive slot is finished.
 pub fn enable_receiver<B: Bus>(bus: &mut B, modes: FilterModes)
     ensures keeps { Keeps B.Bus bus.old bus.new }
     ensures sets { B.honest bus.old → SetsOnly B.Bus (receive_writes modes.promiscuous modes.by_vlan) bus.old bus.new }
@@ -126,6 +128,7 @@ pub fn enable_receiver<B: Bus>(bus: &mut B, modes: FilterModes)
 fn receive_control(modes: FilterModes) -> u32
     ensures { result ≡ receive_control modes.promiscuous modes.by_vlan }
 {
+    // BSIZE 11b selects buffers of 256 bytes. SECRC removes the frame check sequence.
     let mut control = Rctl::EN
         .union(Rctl::BAM)
         .union(Rctl::BSIZE)
@@ -139,9 +142,9 @@ fn receive_control(modes: FilterModes) -> u32
     control.bits()
 }
 
-/// Enables the transmitter, with padding of short frames. Before the write, the driver must be ready with its transmit
-/// side off, and the transmit ring must agree with the driver. Then the driver is ready after the write, with its
-/// transmit side set up.
+/// Enables the transmitter, with padding of short frames. Before the call, let a driver be ready with its transmit side
+/// off, and let the transmit ring agree with the driver (`HasTransmitRing`). After the call, the driver is ready with
+/// its transmit side set up.
 pub fn enable_transmitter<B: Bus>(bus: &mut B)
     ensures keeps { Keeps B.Bus bus.old bus.new }
     ensures sets { B.honest bus.old → SetsOnly B.Bus transmit_writes bus.old bus.new }

@@ -119,7 +119,7 @@ CausesAreEnabled =
     (up : Bool) (driver : DriverState) (causes : ℕ) (world : World) → ReadyWith up driver world
     → Enabled up driver causes world (world_after_write IMS causes world)
 
--- After RXT0, bit 7, is enabled, no work is forgotten if no frame ended in finished slots before, or RXT0 was recorded.
+-- After RXT0, bit 7, is enabled, no work is forgotten if, in the world `a` before, no frame ended in finished slots, or RXT0 was recorded.
 abbrev pub EnabledForgetsNoWork : Type 0
 EnabledForgetsNoWork =
     (up : Bool) (driver : DriverState) (causes : ℕ) (a b : World) → Enabled up driver causes a b → HasBit (causes_of causes) rxt0

@@ -37,6 +37,7 @@ pub record DriversSlotStays (ring : World → Ring) (oldest slot : ℕ) (a b : W
   pub bytes : bytes_in b.memory (descriptor_area (address_of (ring a) slot))
       ≡ bytes_in a.memory (descriptor_area (address_of (ring a) slot))
 
+-- `DriversSlotStays` holds for each slot of the ring that is the driver's.
 abbrev pub DriversSlotsStay : (World → Ring) → ℕ → World → World → Type 0
 DriversSlotsStay ring oldest a b = (slot : ℕ) → IsDriversSlot (ring a) oldest slot → DriversSlotStays ring oldest slot a b
 
@@ -48,8 +49,10 @@ AddressesStay a b =
 
 -- A transmit descriptor doesn't change except for its status, byte 12.
 pub record KeepsAllButStatus (a b : World) (descriptor : ℕ) : Type 0 where
+  -- bytes 0 to 11
   pub before : bytes_in b.memory (record { address = descriptor; size = 12 })
       ≡ bytes_in a.memory (record { address = descriptor; size = 12 })
+  -- bytes 13 to 15
   pub behind : bytes_in b.memory (record { address = descriptor + 13; size = 3 })
       ≡ bytes_in a.memory (record { address = descriptor + 13; size = 3 })
   pub fields : transmit_descriptor_at b.memory descriptor
@@ -64,8 +67,8 @@ pub record SameOutstanding (oldest_receive oldest_transmit : ℕ) (a b : World) 
   pub received : outstanding (receive_ring b) oldest_receive ≡ outstanding (receive_ring a) oldest_receive
   pub sent : outstanding (transmit_ring b) oldest_transmit ≡ outstanding (transmit_ring a) oldest_transmit
 
--- Between two accesses of a driver, the law and its conditions hold, and the same slots are outstanding. The finished slots, the
--- written-back slots, the driver's own slots, and what the driver wrote into descriptors don't change.
+-- Between two accesses of a driver, the law and its conditions hold, and the same slots are outstanding. The descriptors of finished slots,
+-- of written-back slots and of the driver's own slots don't change. What the driver wrote into the other descriptors doesn't change either.
 pub record DriversSideStays (oldest_receive oldest_transmit : ℕ) (a b : World) (past : Past) : Type 0 where
   pub between : Between oldest_receive oldest_transmit a b past
   pub outstanding_same : SameOutstanding oldest_receive oldest_transmit a b
@@ -76,6 +79,7 @@ pub record DriversSideStays (oldest_receive oldest_transmit : ℕ) (a b : World)
   pub addresses : AddressesStay a b
   pub requests : RequestsStay a b
 
+-- If the conditions hold, `DriversSideStays` holds whatever happens between two accesses.
 abbrev pub DriversSideStaysAlways : Type 0
 DriversSideStaysAlways =
     (oldest_receive oldest_transmit : ℕ) (a b : World) (past : Past) → Sound oldest_receive oldest_transmit a → Happens a b past

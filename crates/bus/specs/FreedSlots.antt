@@ -20,6 +20,7 @@ pub record Freed (oldest_receive oldest_transmit : ℕ) (world : World) (slot : 
       ∷ outstanding (transmit_ring world) (behind_oldest_transmit oldest_transmit world)
   pub own : IsDriversSlot (transmit_ring world) (behind_oldest_transmit oldest_transmit world) oldest_transmit
 
+-- If the conditions hold, `Freed` holds for the first written-back slot.
 abbrev pub WrittenSlotsCanBeFreed : Type 0
 WrittenSlotsCanBeFreed =
     (oldest_receive oldest_transmit : ℕ) (world : World) (slot : ℕ) (later : List ℕ)

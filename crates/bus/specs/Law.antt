@@ -28,6 +28,7 @@ pub record Management : Type 0 where
   pub mdic : MdicState
   pub phy : PhyState
 
+-- MDIC and the PHY of an adapter.
 abbrev pub management_of : AdapterState → Management
 management_of adapter = record { mdic = adapter.mdic; phy = adapter.phy }
 
@@ -140,6 +141,7 @@ pub record BusView (B : Type 0) : Type 1 where
   pub happened : B → B → Past → Type 0
   pub lively : B → Type 0
 
+-- The bus with these members.
 abbrev pub view : {B : Type 0} → (B → World) → (B → B → Past → Type 0) → (B → Type 0) → BusView B
 view world happened lively = record { world = world; happened = happened; lively = lively }
 
@@ -148,10 +150,13 @@ view world happened lively = record { world = world; happened = happened; lively
 pub record Acts {B : Type 0} (bus : BusView B) (old new : B) (access : Access) (effect : World → World → Type 0) : Type 0 where
   -- The world in which the access itself begins.
   pub middle : World
+  -- What happened, with the access.
   pub past : Past
   pub only : past.accesses ≡ access ∷ []
   pub told : bus.happened old new past
   pub ticks : bus.lively old → HasTicks past
+  -- The adapter steps and deliveries before the access.
   pub before : Happens (bus.world old) middle past
   pub adapter : IsAdapter middle.adapter
+  -- The access itself, from `middle` to the end of the call.
   pub effect_is : effect middle (bus.world new)

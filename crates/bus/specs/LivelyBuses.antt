@@ -9,9 +9,11 @@ use Rattle.bus.specs.declared.event.Event.{Event}
 use Rattle.bus.specs.declared.event.Event.TheVariants.{Accesses, Arrives, Steps}
 use Rattle.bus.specs.declared.lively_bus.LivelyBus.{LivelyBus}
 
+-- The adapter and the memory of the machine that is lent.
 abbrev pub machine_world : LivelyBus → World
 machine_world bus = bus.machine.now.world
 
+-- The number of bytes of this memory.
 abbrev pub machine_bytes : LivelyBus → ℕ
 machine_bytes bus = length (machine_world bus).memory
 

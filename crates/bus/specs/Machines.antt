@@ -17,6 +17,7 @@ pub record MachineState : Type 0 where
   -- The level of the interrupt line when it was last reported.
   pub reported : Bool
 
+-- The value of a machine in contracts, from the fields of the struct.
 abbrev pub machine_of : Inside → MachineState
 machine_of inside = record {
   world = record { memory = inside.memory; adapter = inside.adapter };

@@ -40,6 +40,7 @@ pub record OfferedMany (oldest_receive oldest_transmit k : ℕ) (a b : World) : 
       ≡ outstanding (receive_ring a) oldest_receive ++ map (address_of (receive_ring a))
       (slots_from (count_of (receive_ring a)) a.adapter.receive_ring.tail k)
 
+-- If the conditions hold and k slots can be offered one after the other, one write of RDT can offer them (`OfferedMany`).
 abbrev pub ManySlotsCanBeOffered : Type 0
 ManySlotsCanBeOffered =
     (oldest_receive oldest_transmit k : ℕ) (world : World) → Sound oldest_receive oldest_transmit world

@@ -68,6 +68,7 @@ pub record RunTaken (oldest_receive oldest_transmit : ℕ) (world : World) (run 
   -- If frames are cut into buffers of some size, the frame of the run and the other frames are cut in this way.
   pub cut : (size : ℕ) → AreCut size oldest_receive world → IsCutRun size oldest_receive world run seen last
 
+-- If the conditions hold, the driver can take its oldest finished slots, `run`, if they contain parts of a frame and then its last piece.
 abbrev pub RunsCanBeTaken : Type 0
 RunsCanBeTaken =
     (oldest_receive oldest_transmit : ℕ) (world : World) (run : List ℕ) (seen : List (List ℕ)) (last : List ℕ) (later : List ℕ)

@@ -40,7 +40,7 @@ pub record CanOffer (oldest : ℕ) (world : World) : Type 0 where
   pub ring : HasRoom oldest world.adapter.receive_ring
   -- The slot's descriptor isn't done.
   pub fresh : is_done world.memory (address_of (receive_ring world) world.adapter.receive_ring.tail) ≡ false
-  -- If RCTL.EN is set, the buffer is in memory.
+  -- If RCTL.EN is set, the buffer is in memory. All buffers have the size of `buffer_of world 0`.
   pub lies : HasBit world.adapter.filter.rctl rctl_en
       → LiesIn world.memory (buffer_of world (address_of (receive_ring world) world.adapter.receive_ring.tail)).address
       (buffer_of world 0).size
@@ -62,6 +62,7 @@ pub record Offered (oldest_receive oldest_transmit : ℕ) (a b : World) : Type 0
       → (HasBit a.adapter.filter.rctl rctl_en → AreApart area (buffer_of a (address_of (receive_ring a) a.adapter.receive_ring.tail)))
       → IsForeign b area
 
+-- If the conditions hold and the slot at RDT can be offered, `Offered` holds after RDT advances by one.
 abbrev pub SlotsCanBeOffered : Type 0
 SlotsCanBeOffered =
     (oldest_receive oldest_transmit : ℕ) (world : World) → Sound oldest_receive oldest_transmit world → CanOffer oldest_receive world
@@ -118,6 +119,7 @@ pub record OfferedFrame (oldest_receive oldest_transmit : ℕ) (a b : World) : T
   pub foreign : (area : Area) → IsForeign a area → AreApart area (status_byte (address_of (transmit_ring a) a.adapter.transmit_ring.tail))
       → IsForeign b area
 
+-- If the conditions hold and the slot at TDT can be offered, `OfferedFrame` holds after TDT advances by one.
 abbrev pub FramesCanBeOffered : Type 0
 FramesCanBeOffered =
     (oldest_receive oldest_transmit : ℕ) (world : World) → Sound oldest_receive oldest_transmit world

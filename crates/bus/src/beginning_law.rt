@@ -14,13 +14,13 @@ pub fn drivers_begin()
 /// A driver that is ready remains ready after each register write of its initialization.
 /// - `receiver`: a write of RCTL while no receive slot is finished or in progress, and the transmit side is off. The
 ///   value has BSEX 0, and BSIZE for the layout's receive buffers.
-/// - `transmit_ring`: a write of TDBAL, TDBAH, TDLEN, TDH or TDT while the transmit side is off. The side remains off
-///   if after the write TDH equals TDT and the ring is inside its place in the layout.
+/// - `transmit_ring`: a write of TDBAL, TDBAH, TDLEN, TDH or TDT while the transmit side is off. After the write, TDH
+///   must equal TDT, and the ring must be inside its place in the layout. The side remains off.
 /// - `transmitter`: a write of TCTL with PSP, after the registers of the transmit ring were set. After the write the
 ///   transmit side is set up.
 /// - `causes`: a write of IMS, which changes only the mask.
-/// - `work`: after a write of IMS with RXT0, no work is forgotten if no frame ended in finished slots before, or RXT0
-///   was recorded.
+/// - `work`: no work is forgotten after a write of IMS with RXT0 if, before the write, no frame ended in finished
+///   slots, or RXT0 was recorded.
 #[tactic(auto, using(crate::proofs::Laws::registers_are_set))]
 pub fn registers_are_set()
     ensures receiver { ReceiverIsEnabled }

@@ -13,9 +13,10 @@ ghost use Rattle.dma_memory.specs.HostMemory.{bytes_at};
 /// one access.
 ///
 /// Any type may implement `Bus`. A bus that isn't `honest` ensures only that its size and the values lent to it don't
-/// change. If such a bus is lively, it remains lively. An honest bus has one adapter and one memory. Before an access,
+/// change, and that it remains lively if it is lively. An honest bus has one adapter and one memory. Before an access,
 /// only steps of the adapter and deliveries may happen. Then the access itself has exactly the effect that adapter and
-/// memory define. In a clause `acts`, `before` is the world after these steps and deliveries, not that of `self.old`.
+/// memory define. In a clause `acts`, `before` is the world after these steps and deliveries, not the world of
+/// `self.old`. `after` is the world of `self.new`.
 pub trait Bus {
     /// The number of bytes of memory.
     ghost extent: { Self → ℕ };
@@ -51,7 +52,7 @@ pub trait Bus {
         ensures acts { honest self.old → Acts (view world happened lively) self.old self.new (Writes offset value)
             (λ before after. after ≡ world_after_write offset value before) };
 
-    /// Fills `into` with the bytes from `address` on. Their addresses must be below [`size`](Bus::size).
+    /// Fills `into` with the bytes from `address` on. The bytes must be at addresses below [`size`](Bus::size).
     fn load(&mut self, address: u64, into: &mut [u8])
         requires { address + length into.old ≤ extent self.old }
         ensures keeps { KeepsProperties extent lent_stays honest lively self.old self.new }
@@ -60,7 +61,7 @@ pub trait Bus {
             (Loads address (length into.old))
             (λ before after. (into.new ≡ bytes_at before.memory address (length into.old)) × (after ≡ before)) };
 
-    /// Stores bytes from `address` on. Their addresses must be below [`size`](Bus::size).
+    /// Stores `bytes` from `address` on. The bytes must be at addresses below [`size`](Bus::size).
     fn store(&mut self, address: u64, bytes: &[u8])
         requires { address + length bytes.now ≤ extent self.old }
         ensures keeps { KeepsProperties extent lent_stays honest lively self.old self.new }

@@ -64,7 +64,7 @@ impl Eq for StoredBytes {
     ghost laws = { Prim.search (comparing, rules) };
 }
 
-/// An access of a driver. The first field is the offset of a register, or an address in memory.
+/// An access of a driver. The first field of each case is the offset of a register, or an address in memory.
 #[derive(Debug, Drop, PartialEq, Eq)]
 pub enum Access {
     /// The register at this offset was read, and had this value.

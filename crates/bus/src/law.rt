@@ -103,9 +103,9 @@ pub fn tails_can_be_moved()
 /// slot, and DD must be clear in the slot's descriptor. If RCTL.EN is set, the slot's buffer must be inside memory,
 /// apart from all areas that the conditions of the law name.
 ///
-/// After the offer, these conditions hold again, and the frames held and to be sent are the same. Engines that could
-/// run still can run. An area that the adapter may not write remains such an area, if it is apart from bytes 8 to 15 of
-/// the descriptor. If RCTL.EN is set, the area must also be apart from the buffer.
+/// After the offer, the conditions of the law hold again, and the frames held and to be sent are the same. Engines that
+/// could run still can run. An area that the adapter may not write remains such an area, if it is apart from bytes 8 to
+/// 15 of the descriptor. If RCTL.EN is set, the area must also be apart from the buffer.
 pub fn slots_can_be_offered()
     ensures { SlotsCanBeOffered }
 {}
@@ -114,7 +114,7 @@ pub fn slots_can_be_offered()
 /// slot, and TCTL.PSP must be set. The slot's descriptor must ask for a report, and its DD must be clear. The slot's
 /// data must be inside memory, apart from all areas that the conditions of the law name.
 ///
-/// After the offer, these conditions hold again, and the slot's frame, padded, is the last one to be sent. If the
+/// After the offer, the conditions of the law hold again. The slot's frame, padded, is the last one to be sent. If the
 /// descriptor can be transmitted, engines that could run still can run. An area that the adapter may not write remains
 /// such an area, if it is apart from byte 12 of the descriptor.
 pub fn frames_can_be_offered()
@@ -162,8 +162,8 @@ pub fn idle_rings_are_sound()
 
 /// Idle rings remain idle until a register of a ring is written. They remain idle whatever happens between two
 /// accesses, whatever is read or stored, and after a write of any other register, even after a reset. They are idle
-/// after a write of a ring's register if head equals tail in each, and both are in memory, apart from each other. So
-/// the conditions of the law hold in each state of initialization up to the first offered slot.
+/// after a write of a ring's register if head equals tail in each ring, and both rings are in memory, apart from each
+/// other. So the conditions of the law hold in each state of initialization up to the first offered slot.
 #[tactic(auto, using(crate::proofs::Laws::idle_rings_stay_idle))]
 pub fn idle_rings_stay_idle()
     ensures happenings { HappeningsKeepIdle }
@@ -179,7 +179,7 @@ pub fn many_slots_can_be_offered()
 {}
 
 /// Other accesses of a driver to registers. After them, the conditions of the law hold. Except for `transmit_ring`,
-/// slots and frames are the same.
+/// slots and frames are the same. Engines that could run still can run. For a write of RCTL, BSEX must then be 0.
 /// - `receive_control`: a write of RCTL, if all areas that the conditions then name are inside memory, apart from one
 ///   another.
 /// - `transmit_control`: a write of TCTL, if PSP is set in the written value or TDH equals TDT.

@@ -1,4 +1,4 @@
-// A machine whose EEPROM and PHY take a step before each access.
+// A bus over a machine: before each access, a tick of the EEPROM and a tick of the PHY are played.
 
 ghost use Rattle.std.specs.Prelude.{min};
 
@@ -24,7 +24,7 @@ impl<'a> LivelyBus<'a> {
     fn prepare(&mut self)
         ensures { IsPrepared self.old self.new }
     {
-        // `true`: the wire has room. These steps put no frame onto it.
+        // `true`: the wire has room. These steps put no frame onto the wire, and their outcomes aren't needed.
         self.machine.step(StepKind::EepromTick, true);
         self.machine.step(StepKind::PhyTick, true);
         self.accesses = self.accesses.saturating_add(1);
@@ -87,6 +87,7 @@ impl<'a> HonestBus for LivelyBus<'a> {
     ghost use Rattle.bus.specs.LivelyBuses.{most_accesses};
     ghost use Rattle.bus.specs.LivelyBusLaws.{lives_count};
 
+    // `min`: in contracts, the field may be any natural number, also one that is too large for a `u64`.
     ghost counted = { λ bus. min bus.accesses most_accesses };
 
     ghost always = { λ bus. tt };

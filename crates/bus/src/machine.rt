@@ -26,7 +26,8 @@ use std::marker::Model;
 /// An adapter and its host's memory. Each call plays at most one event. [`report_line`](Machine::report_line) plays no
 /// event, but stores which level of the interrupt line it reported.
 ///
-/// In contracts, the value is a `MachineState`, plain data that `specs/Machines.antt` defines.
+/// In contracts, the value is a `MachineState`, plain data that `specs/Machines.antt` defines. Clauses that state only
+/// `IsAdapter` publish the machine's invariant.
 #[derive(Clone, Drop)]
 pub struct Machine {
     adapter: Adapter,
@@ -62,7 +63,7 @@ impl Machine {
     }
 
     /// Plays one step of the adapter, and returns its outcome. `wire_free` states whether the wire has room for a
-    /// frame.
+    /// frame. In the clauses, `framed` adds the frame that the step puts to the outcome.
     #[inline(always)]
     pub fn step(&mut self, kind: StepKind, wire_free: bool) -> Outcome<()>
         ensures occurs { Occurs (Steps kind wire_free (framed result self.old.world.adapter)) self.old.world }
@@ -216,8 +217,9 @@ impl Machine {
         &self.adapter
     }
 
-    /// Appends the frames that are to be sent to `sending`, and the frames that are held, from the receive slot
-    /// `oldest` on, to `holding`. Both lists must have room for these frames. See [`Adapter::pending`].
+    /// Appends the frames that are to be sent to `sending`. Appends the frames that are held, from the receive slot
+    /// `oldest` on, to `holding`. Both lists must have room for these frames. The rings and the bytes of these frames
+    /// must be inside memory, and no frame may exceed 1,518 bytes. See [`Adapter::pending`].
     pub fn pending(&self, oldest: u16, sending: &mut Vec<Frame>, holding: &mut Vec<Frame>)
         requires sending { CanReadSending self.now.world }
         requires holding { CanReadHeld oldest self.now.world }

@@ -4,7 +4,7 @@ ghost use Rattle.bus.specs.Resets.{DriversRest, ReceiverIsDisabled, ResetForgets
 ghost use Rattle.bus.specs.Resets.{RestKeepsMemory};
 
 /// A driver that is ready may disable the receiver and reset its adapter, whatever its slots contain.
-/// - `disabled`: the driver remains ready after a write of RCTL without EN and BSEX.
+/// - `disabled`: the driver remains ready after a write of RCTL in which EN and BSEX are 0.
 /// - `forgets`: after the reset the adapter is at rest (`IsAtRest`), and the buffers of all slots are free. Pieces of
 ///   frames that others hold are still in their buffers.
 /// - `sum`: the reset loses no count of missed frames if MPC is 0 before.

@@ -15,9 +15,9 @@ pub fn transmit_slots_are_stored()
 {}
 
 /// A driver whose transmit side is set up sends the frame in the slot at the tail by a write of TDT. The write advances
-/// the tail by one. The frame must have 14 to 1,518 bytes, and at least two slots must not be outstanding before the
-/// write. After the write, the frame, padded, is the last frame to be sent. The write of TDT is the last access of the
-/// call, after loads and stores.
+/// the tail by one. The frame must have 14 to 1,518 bytes. Before the write, at least two slots must not be
+/// outstanding. After the write, the frame, padded, is the last frame to be sent. The write of TDT is the last access
+/// of the call, after loads and stores.
 #[tactic(auto, using(crate::proofs::Laws::frames_are_offered))]
 pub fn frames_are_offered()
     ensures moved { TailIsMoved }

@@ -8,18 +8,21 @@ use Rattle.command_line.specs.declared.command.Form.{Form}
 use Rattle.command_line.specs.declared.command.Form.TheVariants.{File, Flag, Required, Value}
 use Rattle.command_line.specs.declared.command.Subcommand.{Subcommand}
 
+-- whether an argument of this form is required
 abbrev pub is_required_form : Form → Bool
 is_required_form (Value value) = false
 is_required_form (Required value) = true
 is_required_form Flag = false
 is_required_form File = true
 
+-- clap's rule for an argument of this form and this name
 abbrev pub rule_of_form : Form → Text → Rule
 rule_of_form (Value value) name = option_rule name
 rule_of_form (Required value) name = required_rule name
 rule_of_form Flag name = flag_rule name
 rule_of_form File name = file_rule name
 
+-- clap's rule for an argument; field 0 is the name, and field 1 the form
 abbrev pub rule_for : Argument → Rule
 rule_for argument = rule_of_form argument.1 argument.0.now
 
@@ -28,7 +31,7 @@ abbrev pub with_rules : App → List Rule → App
 with_rules app [] = app
 with_rules app (rule ∷ others) = with_rules (with_rule app rule) others
 
--- clap's command for a subcommand, with a rule for each argument
+-- clap's command for a subcommand: field 0 is the name, and field 3 contains the arguments, each with a rule
 abbrev pub app_for : Subcommand → App
 app_for subcommand = with_rules (new_app subcommand.0.now) (map rule_for subcommand.3.now)
 

@@ -48,17 +48,20 @@ IsTextOf text value = text ≡ option_map (λ value. value.now) value
 abbrev pub IsFlagOf : Option Text → Bool → Type 0
 IsFlagOf text flag = IsTrue flag ↔ (text ≡ Some (codes "true"))
 
+-- each option of the filter has the value of its text, or no value if it has no text
 pub record IsPassFilterOf (rows : List Row) (filter : PassFilter) : Type 0 where
   pub address : IsValueOf SpellsAddress (first_of (codes "address") rows) filter.address
   pub group : IsValueOf SpellsGroup (first_of (codes "group") rows) filter.group
   pub vlan : IsValueOf SpellsVlan (first_of (codes "vlan") rows) filter.vlan
 
+-- the paths of both files are given, and the options of a `pass` have the values of their texts
 pub record IsPassJobOf (rows : List Row) (job : PassJob) : Type 0 where
   pub filter : IsPassFilterOf rows job.filter
   pub input : first_of (codes "IN") rows ≡ Some job.input.now
   pub output : first_of (codes "OUT") rows ≡ Some job.output.now
   pub nanos : IsFlagOf (first_of (codes "nanos") rows) job.nanos
 
+-- the paths of the scenario and the folder are given, and the options of a `run` have the values of their texts
 pub record IsRunJobOf (rows : List Row) (job : RunJob) : Type 0 where
   pub scenario : first_of (codes "SCENARIO") rows ≡ Some job.scenario.now
   pub directory : first_of (codes "OUTDIR") rows ≡ Some job.directory.now
@@ -66,6 +69,7 @@ pub record IsRunJobOf (rows : List Row) (job : RunJob) : Type 0 where
   pub nanos : IsFlagOf (first_of (codes "nanos") rows) job.nanos
   pub events : IsTextOf (first_of (codes "events") rows) job.events
 
+-- the path of the trace is given
 abbrev pub IsShowJobOf : List Row → ShowJob → Type 0
 IsShowJobOf rows job = first_of (codes "TRACE") rows ≡ Some job.trace.now
 
@@ -117,6 +121,7 @@ IsWithinBounds filter = IfSome filter.group IsGroupAddress × IfSome filter.vlan
 abbrev pub IsServable : ServeJob → Type 0
 IsServable job = IsKilobytes job.receive_kilobytes × IsLink job.link
 
+-- the bounds of a job's values, whatever the words are
 abbrev pub HasBounds : Job → Type 0
 HasBounds (Pass job) = IsWithinBounds job.filter
 HasBounds (Run job) = ⊤
@@ -146,6 +151,7 @@ IsSubcommand name rows =
     ((name ≡ codes "pass") × HasFiles rows) ⊎ (((name ≡ codes "run") × HasScenario rows)
     ⊎ (((name ≡ codes "show") × HasTrace rows) ⊎ ((name ≡ codes "serve") ⊎ ((name ≡ codes "drive") × HasTraces rows))))
 
+-- the name of an option, without the hyphens
 abbrev pub name_of : ValueOption → Text
 name_of options.Address = codes "address"
 name_of options.Group = codes "group"
@@ -199,12 +205,12 @@ IsSpelled rows options.Buffers text = (n : ℕ) × SpellsRingSize text n
 IsSpelled rows options.Expect text = (n : ℕ) × SpellsDecimal text n
 IsSpelled rows options.Idle text = (n : ℕ) × SpellsDecimal text n
 
--- The option is given with this text, and the text doesn't have the option's form, or the option excludes another option that is given.
+-- The option is given with this text, and is refused: the text doesn't have the option's form, or the option excludes another given option.
 pub record IsInvalidIn (rows : List Row) (value : InvalidValue) : Type 0 where
   pub given : first_of (name_of value.option) rows ≡ Some value.text.now
   pub unspelled : ¬ IsSpelled rows value.option value.text.now
 
--- the option is given, and its text doesn't have the option's form, or the option excludes another option that is given
+-- the option is given, and is refused: its text doesn't have the option's form, or the option excludes another given option
 pub record IsMisspelled (rows : List Row) (option : ValueOption) : Type 0 where
   pub text : Text
   pub given : first_of (name_of option) rows ≡ Some text

@@ -13,6 +13,7 @@ use Rattle.command_line.specs.declared.job.ValueOption.TheVariants as options
 abbrev pub IsGroupAddress : List ℕ → Type 0
 IsGroupAddress address = IsBitSet (slice_index address 0) 0
 
+-- the text spells this group address
 abbrev pub SpellsGroup : Text → List ℕ → Type 0
 SpellsGroup text address = SpellsAddress text address × IsGroupAddress address
 
@@ -40,6 +41,7 @@ SpellsRingSize text n = SpellsDecimal text n × (n < 2 ^ 16)
 abbrev pub IsKilobytes : ℕ → Type 0
 IsKilobytes n = (2 ≤ n) × (n ≤ 48) × (n % 2 ≡ 0)
 
+-- the text spells this number of kilobytes in decimal digits
 abbrev pub SpellsKilobytes : Text → ℕ → Type 0
 SpellsKilobytes text n = SpellsDecimal text n × IsKilobytes n
 
@@ -48,6 +50,7 @@ abbrev pub IsLink : ServeLink → Type 0
 IsLink (After ticks) = (1 ≤ ticks) × (ticks ≤ 65535)
 IsLink Never = ⊤
 
+-- the text spells when a link is up: `never`, or ticks in decimal digits
 abbrev pub SpellsLink : Text → ServeLink → Type 0
 SpellsLink text (After ticks) = SpellsDecimal text ticks × IsLink (After ticks)
 SpellsLink text Never = text ≡ codes "never"

@@ -53,12 +53,14 @@ fn link(matches: &ArgMatches<'_>) -> Result<ServeLink, ValueOption>
     }
 }
 
-/// Returns the job of a `serve` with these matches. Fails with an option whose text is invalid.
+/// Returns the job of a `serve` with these matches. Fails with an option whose text is invalid, or with `--image` if
+/// `--address` is given, too.
 pub(crate) fn serve_job<'a>(matches: &ArgMatches<'a>) -> Result<Job<'a>, ValueOption>
     ensures bounds { IfOk result HasBounds }
     ensures job { IfOk result (IsJobOf (codes "serve", rows_of (found_of matches.now))) }
     ensures refused { IfErr result (IsMisspelledOf (codes "serve") (rows_of (found_of matches.now))) }
 {
+    // The forms of `--rxa` and `--missed` bound the numbers, so the casts don't change them. 48 and 0 are defaults.
     Ok(Job::Serve(ServeJob {
         memory: number_or(matches, ValueOption::Memory, MEMORY)?,
         registers: number_or(matches, ValueOption::Registers, REGISTERS)?,
@@ -72,14 +74,16 @@ pub(crate) fn serve_job<'a>(matches: &ArgMatches<'a>) -> Result<Job<'a>, ValueOp
     }))
 }
 
-/// Returns the job of a `drive` with these matches, which contain the paths of both traces. Fails with an option whose
-/// text is invalid.
+/// Returns the job of a `drive` with these matches, which must contain the paths of both traces. Fails with an option
+/// whose text is invalid.
 pub(crate) fn drive_job<'a>(matches: &ArgMatches<'a>) -> Result<Job<'a>, ValueOption>
     requires { HasTraces (rows_of (found_of matches.now)) }
     ensures bounds { IfOk result HasBounds }
     ensures job { IfOk result (IsJobOf (codes "drive", rows_of (found_of matches.now))) }
     ensures refused { IfErr result (IsMisspelledOf (codes "drive") (rows_of (found_of matches.now))) }
 {
+    // The forms of `--rx`, `--tx` and `--buffers` bound the numbers, so the casts don't change them. 64 and 512 are
+    // defaults.
     Ok(Job::Drive(DriveJob {
         registers: number_or(matches, ValueOption::Registers, REGISTERS)?,
         memory: number_or(matches, ValueOption::Memory, MEMORY)?,

@@ -36,7 +36,7 @@ fn is_required(form: Form<'_>) -> bool
     matches!(form, Form::Required(_) | Form::File)
 }
 
-/// Returns an argument in clap's form.
+/// Returns an argument in clap's form. The argument isn't global.
 fn clap_argument<'a>(alloc: Global, argument: &Argument<'a>) -> Arg<'a>
     ensures rule { rule_of result ≡ rule_for argument.now }
     ensures local { result.global ≡ false }

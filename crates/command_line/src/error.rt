@@ -25,6 +25,7 @@ pub enum LineError<'a> {
     Memory,
 }
 
+/// The text of `NotUnicode`, in the form of clap's texts.
 const NOT_UNICODE: &str = "error: invalid UTF-8 was detected in one or more arguments
 
 Usage: nicbench <COMMAND>
@@ -82,7 +83,7 @@ impl fmt::Display for InvalidValue<'_> {
 }
 
 /// Returns the end of an error's first line, after the option's name: the name of the option's value in help, and which
-/// values are valid. For `--image`, returns why the option was refused.
+/// values are valid. For `--image`, the line ends with the reason why the option was refused.
 fn form_of(option: ValueOption) -> &'static str {
     match option {
         ValueOption::Address =>

@@ -22,7 +22,7 @@ pub enum Job<'a> {
 /// The job of `pass`.
 #[derive(Clone, Copy)]
 pub struct PassJob<'a> {
-    /// Which frames pass (`--address`, `--group` and `--vlan`, none of them).
+    /// Which frames pass (`--address`, `--group` and `--vlan`, by default none of these options).
     pub filter: PassFilter,
     /// The path of the trace that is read, IN.
     pub input: &'a str,
@@ -43,7 +43,7 @@ pub struct RunJob<'a> {
     pub wires: bool,
     /// Whether times are written in nanoseconds (`--nanos`).
     pub nanos: bool,
-    /// The path of the file that gets a line for each event and drain (`--events`, none).
+    /// The path of the file that gets a line for each event and drain (`--events`, by default none).
     pub events: Option<&'a str>,
 }
 
@@ -54,7 +54,7 @@ pub struct ShowJob<'a> {
     pub trace: &'a str,
 }
 
-/// The job of `serve`. An option that isn't given has its default here, or is `None`.
+/// The job of `serve`. An option that isn't given has its default, which follows the option's name, or is `None`.
 #[derive(Clone, Copy)]
 pub struct ServeJob<'a> {
     /// The number of bytes of memory, from address 0 on (`--memory`, 1 MiB).
@@ -77,7 +77,7 @@ pub struct ServeJob<'a> {
     pub record: Option<&'a str>,
 }
 
-/// The job of `drive`. An option that isn't given has its default here, or is `None`.
+/// The job of `drive`. An option that isn't given has its default, which follows the option's name, or is `None`.
 #[derive(Clone, Copy)]
 pub struct DriveJob<'a> {
     /// The address of the first byte of registers (`--registers`, 0xFEB00000).

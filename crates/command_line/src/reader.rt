@@ -16,7 +16,9 @@ use clap::ArgMatches;
 use std::alloc::Global;
 use std::convert::AsStr;
 
-/// Returns the job of the subcommand `name` with these matches. Fails with an option whose text is invalid.
+/// Returns the job of the subcommand `name` with these matches. The program must have this subcommand, and the matches
+/// must contain the paths that it requires. Fails with an option whose text is invalid, or with `--image` if
+/// `--address` is given, too.
 fn job_of<'a>(name: &str, matches: &ArgMatches<'a>) -> Result<Job<'a>, ValueOption>
     requires { IsSubcommand name.now (rows_of (found_of matches.now)) }
     ensures bounds { IfOk result HasBounds }

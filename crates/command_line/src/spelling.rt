@@ -6,6 +6,7 @@ ghost use Rattle.command_line.specs.declared.job.ServeLink.{ServeLink};
 use crate::{ServeLink, ValueOption};
 use text::digits_of;
 
+/// The base of decimal numbers.
 const DECIMAL: u32 = 10;
 
 /// The bit of an address's first byte that makes it a group address (IEEE 802.3 3.2.3).
@@ -17,6 +18,7 @@ const HIGHEST_VLAN: u64 = 4095;
 /// The smallest receive part of a packet buffer in kilobytes (manual 13.4.16, RXA).
 const LEAST_KILOBYTES: u64 = 2;
 
+/// The greatest receive part, in kilobytes.
 const MOST_KILOBYTES: u64 = 48;
 
 /// Returns the group address that a text spells: an address whose first byte is odd, such as `01:00:5e:00:00:01`.

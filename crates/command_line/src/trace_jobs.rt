@@ -17,6 +17,7 @@ fn vlan(matches: &ArgMatches<'_>) -> Result<Option<u16>, ValueOption>
     ensures refused { IfErr result (IsMisspelledOf (codes "pass") (rows_of (found_of matches.now))) }
 {
     match number(matches, ValueOption::Vlan)? {
+        // The number is at most 4,095, so the cast doesn't change it.
         Some(vlan) => Ok(Some(vlan as u16)),
         None => Ok(None),
     }
@@ -35,8 +36,8 @@ fn filter(matches: &ArgMatches<'_>) -> Result<PassFilter, ValueOption>
     })
 }
 
-/// Returns the job of a `pass` with these matches, which contain the paths of both files. Fails with an option whose
-/// text is invalid.
+/// Returns the job of a `pass` with these matches, which must contain the paths of both files. Fails with an option
+/// whose text is invalid.
 pub(crate) fn pass_job<'a>(matches: &ArgMatches<'a>) -> Result<Job<'a>, ValueOption>
     requires { HasFiles (rows_of (found_of matches.now)) }
     ensures bounds { IfOk result HasBounds }
@@ -52,7 +53,7 @@ pub(crate) fn pass_job<'a>(matches: &ArgMatches<'a>) -> Result<Job<'a>, ValueOpt
     }))
 }
 
-/// Returns the job of a `run` with these matches, which contain the paths of the scenario and of the folder.
+/// Returns the job of a `run` with these matches, which must contain the paths of the scenario and of the folder.
 pub(crate) fn run_job<'a>(matches: &ArgMatches<'a>) -> RunJob<'a>
     requires { HasScenario (rows_of (found_of matches.now)) }
     ensures { IsRunJobOf (rows_of (found_of matches.now)) result }

@@ -40,14 +40,14 @@ pub(crate) fn text<'a>(matches: &ArgMatches<'a>, name: &str) -> Option<&'a str>
     matches.get_str(name)
 }
 
-/// Returns whether a flag is given.
+/// Returns whether a flag is given: then clap's text for the flag is `true`.
 pub(crate) fn flag(matches: &ArgMatches<'_>, name: &str) -> bool
     ensures { IsFlagOf (text_in matches.now name.now) result }
 {
     text(matches, name) == Some("true")
 }
 
-/// Returns the path of a file or a folder that is given.
+/// Returns the path of a file or a folder, which must be given.
 pub(crate) fn path<'a>(matches: &ArgMatches<'a>, name: &str) -> &'a str
     requires { IsSome (text_in matches.now name.now) }
     ensures { text_in matches.now name.now ≡ Some result.now }
@@ -55,7 +55,8 @@ pub(crate) fn path<'a>(matches: &ArgMatches<'a>, name: &str) -> &'a str
     text(matches, name).unwrap()
 }
 
-/// Returns an option with its text, which is invalid for the option.
+/// Returns an option with its text. The option must be given, and must be refused: its text is invalid for the option,
+/// or the option excludes another option that is given.
 pub(crate) fn invalid<'a>(matches: &ArgMatches<'a>, option: ValueOption) -> InvalidValue<'a>
     requires { IsMisspelled (rows_of (found_of matches.now)) option }
     ensures option { result.option ≡ option }
@@ -66,7 +67,7 @@ pub(crate) fn invalid<'a>(matches: &ArgMatches<'a>, option: ValueOption) -> Inva
 }
 
 /// Returns the address in the text of an option, or `None` if the option isn't given. Fails with the option if its text
-/// doesn't have the option's form.
+/// doesn't have the option's form. The option's values must be addresses.
 pub(crate) fn address(
     matches: &ArgMatches<'_>,
     option: ValueOption,
@@ -90,7 +91,7 @@ pub(crate) fn address(
 }
 
 /// Returns the number in the text of an option, or `None` if the option isn't given. Fails with the option if its text
-/// doesn't have the option's form.
+/// doesn't have the option's form. The option's values must be numbers.
 pub(crate) fn number(
     matches: &ArgMatches<'_>,
     option: ValueOption,
@@ -108,7 +109,8 @@ pub(crate) fn number(
     }
 }
 
-/// Returns the number in the text of an option, or `default` if the option isn't given. Fails like [`number`].
+/// Returns the number in the text of an option, or `default` if the option isn't given. Fails like [`number`], and has
+/// the same precondition.
 pub(crate) fn number_or(
     matches: &ArgMatches<'_>,
     option: ValueOption,

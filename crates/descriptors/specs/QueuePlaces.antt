@@ -5,7 +5,8 @@ use Rattle.descriptors.specs.QueuedFrames.{Frames}
 use Rattle.descriptors.specs.WrappedPlaces.{wrapped}
 use Rattle.descriptors.specs.declared.queue.FrameQueue.TheInside.{Inside}
 
--- The frames of these lengths, each at the start of its own place, from this place on.
+-- The frames of these lengths in these bytes, each at the start of its own place. The first frame is in this place, and places wrap at the
+-- capacity.
 unfoldable pub placed_frames : List ℕ → ℕ → ℕ → List ℕ → List (List ℕ)
 placed_frames bytes capacity place [] = []
 placed_frames bytes capacity place (n ∷ ns) =

@@ -89,8 +89,8 @@ impl PackedQueue {
         Some(&self.bytes.as_slice()[self.first..self.first + length])
     }
 
-    /// Returns the frame with this index, without a copy. The oldest frame has index 0. The call takes time in
-    /// proportion to the index.
+    /// Returns the frame with this index, without a copy. The oldest frame has index 0, and the index must be below the
+    /// number of frames. The call takes time in proportion to the index.
     pub fn frame_at(&self, index: usize) -> &[u8]
         requires { index < length self.now.frames }
         ensures { slice_get self.now.frames index ≡ Some result.now }
@@ -112,6 +112,7 @@ impl PackedQueue {
         ensures { self.new ≡ record self.old { frames = self.old.frames ++ frame.now ∷ [] } }
     {
         let first = append(self.bytes.as_mut_slice(), self.first, self.end, frame);
+        // The bytes of the older frames now begin at `first`, and the new frame follows them.
         self.end = first + (self.end - self.first) + frame.len();
         self.first = first;
         // The buffer of lengths isn't full, so the call returns no length that it dropped.
@@ -142,7 +143,8 @@ impl PackedQueue {
         self.end = 0;
     }
 
-    /// Feeds the frames to a hasher, the oldest first. Queues with the same frames feed the same bytes.
+    /// Feeds the number of frames to a hasher, and then the length and bytes of each frame, the oldest first. Queues
+    /// with the same frames feed the same bytes.
     pub fn feed<H: Hasher>(&self, hasher: &mut H)
         ensures { hasher.new ≡ fold H.write hasher.old (frames_writes self.now.frames) }
     {
@@ -159,9 +161,9 @@ impl PackedQueue {
     }
 }
 
-/// Moves the bytes from `first` up to `end` to the start of the memory, if fewer than `more` bytes follow them. The
-/// memory must have room for these bytes and `more` others. Returns the new index of the first of the moved bytes, or
-/// `first` if nothing was moved.
+/// Moves the bytes from `first` up to, but not including, `end` to the start of `bytes`, if fewer than `more` bytes
+/// follow them. Returns the index at which the range begins after the call: 0 if it was moved, else `first`. The range
+/// must be inside `bytes`, which must have room for the range and `more` other bytes.
 fn make_room(bytes: &mut [u8], first: usize, end: usize, more: usize) -> usize
     requires order { first ≤ end }
     requires lies { end ≤ length bytes.old }
@@ -177,9 +179,9 @@ fn make_room(bytes: &mut [u8], first: usize, end: usize, more: usize) -> usize
     0
 }
 
-/// Writes a frame after the bytes from `first` up to `end`. If the frame doesn't fit there, first moves these bytes to
-/// the start of the memory. The memory must have room for these bytes and the frame. Returns the index of the first of
-/// these bytes after the call.
+/// Writes a frame after the bytes from `first` up to, but not including, `end`. If the frame doesn't fit there, first
+/// moves this range to the start of `bytes`. Returns the index at which the range begins after the call. The range must
+/// be inside `bytes`, which must have room for the range and the frame.
 fn append(bytes: &mut [u8], first: usize, end: usize, frame: &[u8]) -> usize
     requires order { first ≤ end }
     requires lies { end ≤ length bytes.old }
@@ -195,7 +197,7 @@ fn append(bytes: &mut [u8], first: usize, end: usize, frame: &[u8]) -> usize
     begins
 }
 
-/// Writes a frame to the bytes from `start` on, which must be inside `bytes`.
+/// Writes a frame to `bytes` from index `start` on. The frame must end inside `bytes`. The other bytes don't change.
 fn write_at(bytes: &mut [u8], start: usize, frame: &[u8])
     requires lies { start + length frame.now ≤ length bytes.old }
     ensures { bytes.new ≡ take start bytes.old ++ frame.now ++ drop (start + length frame.now) bytes.old }

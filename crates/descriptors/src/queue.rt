@@ -132,6 +132,7 @@ impl FrameQueue {
         } }
     {
         let length = frame.len().max(least);
+        // The new frame's place, before it wraps, is the one after the newest frame.
         let behind = usize::from(self.first) + self.lengths.len();
         let start = wrap(behind, self.lengths.capacity()) * PLACE_BYTES;
         write_padded(self.bytes.as_mut_slice(), start, frame, length);
@@ -153,10 +154,12 @@ impl FrameQueue {
     pub fn clear(&mut self)
         ensures { self.new ≡ record self.old { frames = [] } }
     {
+        // In an empty queue, `first` is the place of the next frame, and may be any place.
         self.lengths.clear();
     }
 
-    /// Returns the frame with this index, without a copy. The oldest frame has index 0.
+    /// Returns the frame with this index, without a copy. The oldest frame has index 0, and the index must be below the
+    /// number of frames.
     pub fn frame_at(&self, index: usize) -> &[u8]
         requires { index < length self.now.frames }
         ensures frame { slice_get self.now.frames index ≡ Some result.now }
@@ -168,7 +171,8 @@ impl FrameQueue {
         &self.bytes.as_slice()[start..start + length]
     }
 
-    /// Feeds the frames to a hasher, the oldest first. Queues with the same frames feed the same bytes.
+    /// Feeds the number of frames to a hasher, and then the length and bytes of each frame, the oldest first. Queues
+    /// with the same frames feed the same bytes.
     pub fn feed<H: Hasher>(&self, hasher: &mut H)
         ensures { hasher.new ≡ fold H.write hasher.old (frames_writes self.now.frames) }
     {
@@ -182,8 +186,7 @@ impl FrameQueue {
     }
 }
 
-/// Returns the place that is `place` after at most one wrap: `place` if it is below the capacity, else
-/// `place - capacity`.
+/// Returns the index of a place after at most one wrap: `place` if it is below the capacity, else `place - capacity`.
 fn wrap(place: usize, capacity: usize) -> usize
     ensures { result ≡ wrapped capacity place }
 {
@@ -194,7 +197,8 @@ fn wrap(place: usize, capacity: usize) -> usize
     }
 }
 
-/// Writes a frame at `start`, followed by zeros up to `total` bytes, which is at least the frame's length.
+/// Writes `total` bytes from index `start` on: the frame, and then zeros. These bytes must be inside `bytes`, and
+/// `total` must be at least the frame's length. The other bytes don't change.
 fn write_padded(bytes: &mut [u8], start: usize, frame: &[u8], total: usize)
     requires lies { start + total ≤ length bytes.old }
     requires fits { length frame.now ≤ total }

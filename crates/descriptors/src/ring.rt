@@ -43,16 +43,18 @@ impl Ring {
         (self.head as u32) < count && (self.tail as u32) < count
     }
 
-    /// Returns the index of the slot after the slot `index`: 0 after the last slot.
+    /// Returns the index of the slot after the slot `index`: 0 after the last slot. The index must be below the count.
     pub fn next(&self, index: u16) -> u16
         requires { index < count_of self.now }
         ensures { result ≡ next_of self.now index }
     {
         let next = index as u32 + 1;
+        // Any other `next` is below the count, and so below 65,536.
         if next == self.count() { 0 } else { next as u16 }
     }
 
-    /// Returns the number of slots by which `from` must advance to reach `to`, with wrapping.
+    /// Returns the number of slots by which `from` must advance to reach `to`, with wrapping. Both must be indices of
+    /// slots.
     pub fn distance(&self, from: u16, to: u16) -> u32
         requires from_slot { from < count_of self.now }
         requires to_slot { to < count_of self.now }
@@ -66,7 +68,7 @@ impl Ring {
     }
 
     /// Returns the address of the descriptor in the slot `index`, or `None` exactly if a memory of `size` bytes doesn't
-    /// contain the descriptor. Addresses don't wrap.
+    /// contain the descriptor. Addresses don't wrap at 2^64. The index isn't compared with the count.
     pub fn descriptor(&self, index: u16, size: u64) -> Option<u64>
         ensures inside { IsSome result ↔ (address_of self.now index + DESCRIPTOR_BYTES ≤ size) }
         ensures value { IfSome result (λ address. address ≡ address_of self.now index) }

@@ -51,7 +51,7 @@ receive_buffer_bytes = 256
 abbrev pub buffers_start : Counts → ℕ
 buffers_start counts = next_multiple_of (descriptor_bytes * counts.rx + descriptor_bytes * counts.tx) transmit_buffer_bytes
 
--- A ring or a buffer of a layout (our choice).
+-- A ring or a buffer of a layout (our choice). A transmit buffer has its descriptor's index, and a receive buffer its number.
 pub data Place : Type 0 where
   ReceiveRing : Place
   TransmitRing : Place
@@ -81,7 +81,7 @@ bytes_of counts TransmitRing = descriptor_bytes * counts.tx
 bytes_of counts (TransmitBuffer slot) = transmit_buffer_bytes
 bytes_of counts (ReceiveBuffer number) = receive_buffer_bytes
 
--- The number of bytes of memory that a layout needs: up to the end of the last receive buffer.
+-- The number of bytes of memory that a layout needs: up to the end of the last receive buffer, at which one more buffer would begin.
 abbrev pub size_of : Counts → ℕ
 size_of counts = start_of counts (ReceiveBuffer counts.buffers)
 
@@ -101,6 +101,9 @@ PlacesLieBelowSize = (counts : Counts) (place : Place) → HasPlace counts place
 
 -- The buffers begin at the first multiple of a transmit buffer's size at or after the end of both rings.
 pub record BeginsAtNextMultiple (counts : Counts) : Type 0 where
+  -- The start of the buffers is a multiple of 2,048.
   pub multiple : buffers_start counts % transmit_buffer_bytes ≡ 0
+  -- The buffers begin at or after the end of both rings.
   pub behind_rings : descriptor_bytes * counts.rx + descriptor_bytes * counts.tx ≤ buffers_start counts
+  -- No smaller multiple is at or after the end of both rings.
   pub first : buffers_start counts < descriptor_bytes * counts.rx + descriptor_bytes * counts.tx + transmit_buffer_bytes

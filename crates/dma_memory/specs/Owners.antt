@@ -20,11 +20,14 @@ HaveSameNumbers xs ys = (k : ℕ) → copies k xs ≡ copies k ys
 
 -- Each number below n is at exactly one place of the list. No other number is in the list.
 pub record EachStandsOnce (n : ℕ) (numbers : List ℕ) : Type 0 where
+  -- Each number below n is in the list.
   pub somewhere : (k : ℕ) → k < n → (i : ℕ) × (slice_get numbers i ≡ Some k)
+  -- No number is at two places.
   pub nowhere_else : (i j k : ℕ) → slice_get numbers i ≡ Some k → slice_get numbers j ≡ Some k → i ≡ j
+  -- Each number of the list is below n.
   pub known : (i k : ℕ) → slice_get numbers i ≡ Some k → k < n
 
--- All numbers below n have one owner by counts (`HasOneOwner`) if and only if they have one by places (`EachStandsOnce`).
+-- Each number below n has one owner by counts (`HasOneOwner`) if and only if each has one by places (`EachStandsOnce`).
 abbrev pub CountsArePlaces : Type 0
 CountsArePlaces = (n : ℕ) (numbers : List ℕ) → HasOneOwner n numbers ↔ EachStandsOnce n numbers
 
@@ -32,12 +35,12 @@ CountsArePlaces = (n : ℕ) (numbers : List ℕ) → HasOneOwner n numbers ↔ E
 abbrev pub OwnersAddUp : Type 0
 OwnersAddUp = (k : ℕ) (xs ys : List ℕ) → copies k (xs ++ ys) ≡ copies k xs + copies k ys
 
--- If each number below n has one owner, this remains true after a number moves from one owner to another.
+-- If each number below n has one owner, this remains true after a number moves from the owner `giver` to the owner `taker`.
 abbrev pub MovesKeepOneOwner : Type 0
 MovesKeepOneOwner = (n number : ℕ) (giver giver' taker taker' : List ℕ) → HasOneOwner n (giver ++ taker)
     → HaveSameNumbers giver (number ∷ giver') → HaveSameNumbers (number ∷ taker) taker' → HasOneOwner n (giver' ++ taker')
 
--- If each number below n has one owner in `xs` and `ys` joined, each number of `ys` is below n, and isn't in `xs`.
+-- If each number below n has one owner in the list of `xs` and then `ys`, each number of `ys` is below n, and isn't in `xs`.
 abbrev pub OwnedIsNowhereElse : Type 0
 OwnedIsNowhereElse = (n number : ℕ) (xs ys : List ℕ) → HasOneOwner n (xs ++ ys) → 0 < copies number ys → (number < n)
     × (copies number xs ≡ 0)

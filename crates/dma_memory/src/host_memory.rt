@@ -60,7 +60,8 @@ impl HostMemory {
     ///
     /// # Errors
     ///
-    /// E1 [`OutOfRange`] exactly if the address of one of these bytes isn't below the size; then `into` is unchanged.
+    /// E1 [`OutOfRange`] exactly if the address of one of these bytes isn't below the size. In this case, `into`
+    /// doesn't change.
     pub fn load(&self, address: u64, into: &mut [u8]) -> Result<(), OutOfRange>
         ensures in_range { IsOk result ↔ LiesIn self.now address (length into.old) }
         ensures loaded { OnOk result (into.new ≡ bytes_at self.now address (length into.old)) }
@@ -75,7 +76,8 @@ impl HostMemory {
     ///
     /// # Errors
     ///
-    /// E1 [`OutOfRange`] exactly if the address of one of these bytes isn't below the size; then memory is unchanged.
+    /// E1 [`OutOfRange`] exactly if the address of one of these bytes isn't below the size. In this case, memory
+    /// doesn't change.
     pub fn store(&mut self, address: u64, bytes: &[u8]) -> Result<(), OutOfRange>
         ensures in_range { IsOk result ↔ LiesIn self.old address (length bytes.now) }
         ensures stored { OnOk result (self.new ≡ with_bytes self.old address bytes.now) }
@@ -84,6 +86,7 @@ impl HostMemory {
         if !self.has(address, bytes.len()) {
             return Err(OutOfRange);
         }
+        // An empty range may begin after the end of memory, but a slice can't.
         if !bytes.is_empty() {
             let start = address as usize;
             self.bytes.as_mut_slice()[start..start + bytes.len()].copy_from_slice(bytes);
@@ -103,6 +106,7 @@ impl HostMemory {
         if !self.has(address, count) {
             return Err(OutOfRange);
         }
+        // An empty range may begin after the end of memory, but a slice can't.
         if count == 0 {
             return Ok(&[]);
         }

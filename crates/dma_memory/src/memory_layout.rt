@@ -142,7 +142,8 @@ impl Layout {
         self.receive_ring() + DESCRIPTOR_BYTES * u64::from(self.rx)
     }
 
-    /// Returns the address of the buffer that belongs to the transmit descriptor with index `slot`.
+    /// Returns the address of the buffer that belongs to the transmit descriptor with index `slot`, which must be below
+    /// [`tx`](Layout::tx). The buffer ends at or before [`size`](Layout::size).
     pub fn transmit_buffer(&self, slot: u16) -> u64
         requires { slot < self.now.tx }
         ensures start { result ≡ start_of self.now (TransmitBuffer slot) }
@@ -151,7 +152,8 @@ impl Layout {
         self.first_transmit_buffer() + TRANSMIT_BUFFER_BYTES * u64::from(slot)
     }
 
-    /// Returns the address of the receive buffer `number`, which must be below [`buffers`](Layout::buffers).
+    /// Returns the address of the receive buffer `number`, which must be below [`buffers`](Layout::buffers). The buffer
+    /// ends at or before [`size`](Layout::size).
     pub fn receive_buffer(&self, number: u16) -> u64
         requires { number < self.now.buffers }
         ensures start { result ≡ start_of self.now (ReceiveBuffer number) }

@@ -81,8 +81,9 @@ impl Pool {
         self.free.is_empty()
     }
 
-    /// Removes a number from the pool and returns the number, or `None` exactly if the pool is empty. The contract
-    /// doesn't state which number is removed.
+    /// Removes a number from the pool, and returns this number, which is below the pool's number of buffers. The pool
+    /// then doesn't contain the number. The contract doesn't state which number is removed, or the order of the others.
+    /// Returns `None`, and changes nothing, exactly if the pool is empty.
     pub fn take(&mut self) -> Option<BufId>
         ensures none { IsNone result ↔ (self.old.free ≡ []) }
         ensures taken { IfSome result (λ number. HaveSameNumbers self.old.free (number ∷ self.new.free)) }

@@ -12,7 +12,7 @@ use Rattle.drive.specs.Numbering.{timed_by_number}
 use Rattle.drive.specs.declared.counts.DriveCounts.{DriveCounts}
 use Rattle.drive.specs.declared.counts.DriveRings.{DriveRings}
 
--- the numbers of descriptors and buffers
+-- the numbers of descriptors and buffers, as those of a layout
 abbrev pub layout_counts : DriveRings → Counts
 layout_counts rings = record { rx = rings.rx; tx = rings.tx; buffers = rings.buffers }
 

@@ -35,8 +35,9 @@ saturated n = min n (2 ^ 64 - 1)
 abbrev pub given_of : List ℕ → Given
 given_of frame = record { socket = 0; frame = frame }
 
--- An interval of a host's run over a bus that obeys the bus law. The driver accepted the frames `accepted`, and the socket returned the
--- frames `received`. `flows` relates both lists to the frames that the adapter put on the wire and stored.
+-- An interval of a host's run over a bus that obeys the bus law. The host's transmit side is set up (`true`). The driver accepted the
+-- frames `accepted`, and the socket returned the frames `received`. `flows` relates both lists to the frames that the adapter put on the
+-- wire and stored.
 pub record HostFlows {B : Type 0} (bus : Ghosts B) (accepted received : List (List ℕ)) (old new : HostMoment B) : Type 0 where
   pub honest : bus.honest new.bus
   -- the frames that the driver took off the receive ring

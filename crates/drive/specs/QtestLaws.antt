@@ -10,9 +10,11 @@ use Rattle.bus.specs.BusMembers.{KeepsProperties}
 use Rattle.drive.specs.QtestState.{Asks, AsksAll, IsSameBus, QtestState, is_never, memory_size}
 use Rattle.drive.specs.QtestRequests.{request_of, requests_of}
 
+-- `IsSameBus` holds of no access.
 pub same_bus_here : (a : QtestState) → IsSameBus a a
 same_bus_here a = record { registers = refl; memory = refl; fault_stays = λ none. none }
 
+-- If `IsSameBus` holds of two consecutive intervals, it holds of both joined.
 pub same_bus_on : (a b c : QtestState) → IsSameBus a b → IsSameBus b c → IsSameBus a c
 same_bus_on a b c one two = record {
   registers = two.registers ∙ one.registers;
@@ -20,9 +22,11 @@ same_bus_on a b c one two = record {
   fault_stays = λ none. one.fault_stays (two.fault_stays none);
 }
 
+-- `AsksAll` holds of no access, with the empty list.
 pub asks_here : (a : QtestState) → AsksAll a a
 asks_here a = record { same = same_bus_here a; accesses = []; asked = λ none. Appends-nil a.written }
 
+-- If `AsksAll` holds of two consecutive intervals, it holds of both joined, with their lists joined.
 pub asks_on : (a b c : QtestState) → AsksAll a b → AsksAll b c → AsksAll a c
 asks_on a b c one two = record {
   same = same_bus_on a b c one.same two.same;

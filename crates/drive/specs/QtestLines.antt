@@ -4,6 +4,7 @@ use Rattle.std.specs.List.{starts_with}
 use Rattle.drive.specs.declared.qtest_answers.Line.{Line}
 use Rattle.drive.specs.declared.qtest_answers.Line.TheVariants.{Answer, Interrupt, Report}
 
+-- whether the line begins with this text
 abbrev pub begins : (line text : List ℕ) → Bool
 begins line text = starts_with nat_eq line text
 

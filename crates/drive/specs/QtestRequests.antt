@@ -14,7 +14,7 @@ number_text number = codes " 0x" ++ encode_lower (to_be_bytes w64 number)
 abbrev pub register_address : (registers offset : ℕ) → ℕ
 register_address registers offset = (registers + offset) % 2 ^ 64
 
--- the request for an access
+-- the request for an access; the request for a read is the same for each `value`
 abbrev pub request_of : (registers : ℕ) → Access → List ℕ
 request_of registers (Reads offset value) = codes "readl" ++ number_text (register_address registers offset) ++ codes "\n"
 request_of registers (Writes offset value) =

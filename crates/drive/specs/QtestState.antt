@@ -5,6 +5,7 @@ use Rattle.bus.specs.declared.event.Access.{Access}
 use Rattle.drive.specs.QtestRequests.{request_of, requests_of}
 use Rattle.drive.specs.declared.bus_fault.BusFault.{BusFault}
 
+-- the state of a bus to another program
 pub record QtestState : Type 0 where
   -- the address of the first register
   pub registers : ℕ
@@ -12,11 +13,12 @@ pub record QtestState : Type 0 where
   pub memory : ℕ
   -- whether the interrupt line is asserted, as the last `IRQ` line reported; false before the first one
   pub asserted : Bool
-  -- why the bus stopped, or none if it hasn't stopped
+  -- why the bus stopped, or `None` if it hasn't stopped
   pub fault : Option BusFault
   -- the bytes that were written to the program, if they are visible to contracts
   pub written : Option (List ℕ)
 
+-- the size of memory in bytes, as the `extent` of the bus
 abbrev pub memory_size : QtestState → ℕ
 memory_size bus = bus.memory
 
@@ -35,7 +37,7 @@ pub record IsSameBus (old new : QtestState) : Type 0 where
 abbrev pub HasAsked : (old new : QtestState) → Type 0
 HasAsked old new = new ≡ record old { asserted = new.asserted; written = new.written }
 
--- One access. If the bus hasn't stopped after the access, exactly the request of this access was written.
+-- One access. If the bus hasn't stopped after the access, exactly the request for this access was written.
 pub record Asks (access : Access) (old new : QtestState) : Type 0 where
   pub same : IsSameBus old new
   pub asked : new.fault ≡ None → Appends old.written new.written (request_of old.registers access)

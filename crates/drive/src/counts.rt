@@ -55,7 +55,7 @@ pub struct DriveCounts {
 
 impl DriveCounts {
     /// Returns whether at least `frames` frames were passed to the driver, and at least `expect` frames were received.
-    /// If `expect` is `None`, the number of frames received doesn't matter.
+    /// If `expect` is `None`, the number of received frames doesn't matter.
     pub fn is_all(&self, frames: u64, expect: Option<u64>) -> bool
         ensures { IsTrue result
             ↔ ((frames ≤ self.now.sent + self.now.illegal) × IfSome expect (λ n. n ≤ self.now.received)) }

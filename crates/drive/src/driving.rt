@@ -15,7 +15,8 @@ use packet_socket::{Host, SocketKind};
 use pcap_trace::{Frames, RecordWriter, Sink, Unit};
 use std::alloc::Global;
 
-/// Returns the configuration of a promiscuous driver with these rings, and without groups and VLANs.
+/// Returns the configuration of a promiscuous driver with these rings, a receive packet buffer of 48 KB, no groups and
+/// no VLANs.
 fn config(rings: &DriveRings) -> Config
     ensures { configured_counts result ≡ layout_counts rings.now }
 {
@@ -30,7 +31,8 @@ fn config(rings: &DriveRings) -> Config
     }
 }
 
-/// Initializes the adapter, and returns a host whose only socket takes all frames. Fails as `reason` states.
+/// Initializes the adapter, and returns a host whose only socket takes all frames. The host is ready if the bus obeys
+/// the bus law. After an error of the initialization, returns the error that `reason` chooses.
 fn bring_up<B: WatchedBus>(
     alloc: Global,
     bus: &mut B,
@@ -50,7 +52,7 @@ fn bring_up<B: WatchedBus>(
 }
 
 /// Returns why an initialization failed: the fault of the bus if the bus stopped, or else the error. The reads of a
-/// stopped bus return 0, so the error isn't the reason then.
+/// stopped bus return 0. So if the bus stopped, the error of the initialization isn't the reason.
 fn reason(fault: Option<BusFault>, error: InitError) -> DriveError {
     match (fault, error) {
         (Some(fault), _) => DriveError::Bus(fault),
@@ -64,8 +66,8 @@ fn reason(fault: Option<BusFault>, error: InitError) -> DriveError {
 /// frame's number, from 0 on.
 ///
 /// The frames are passed to the driver in order, each at most once. While its transmit ring is full, and after the last
-/// frame, the handler is called repeatedly. Each call reads ICR, so the bus needn't report the interrupt line. While
-/// frames are sent, the handler is also called after each frame if the interrupt line is asserted.
+/// frame, the interrupt handler is called repeatedly. Each call reads ICR, so the bus needn't report the interrupt
+/// line. The handler is also called after each frame that was passed, if the interrupt line is then asserted.
 ///
 /// # Errors
 ///

@@ -16,7 +16,9 @@ use text::turns;
 /// The only socket of the host, which takes all frames.
 const SOCKET: usize = 0;
 
-/// A host that exchanges frames with its adapter, and the trace of the frames that it received.
+/// A host that exchanges frames with its adapter, and the trace of the frames that the host received. Each call
+/// requires a bus with at least the memory of the driver's layout. After an error, the contracts state only what no
+/// call changes (`Keeps`).
 #[derive(Drop)]
 pub(crate) struct Exchange {
     pub(crate) host: Host,
@@ -55,6 +57,7 @@ impl Handed {
 
 impl Exchange {
     /// Takes the oldest frame that waits for the socket, and appends it to the trace. Returns whether a frame waited.
+    /// Fails if the sink failed.
     fn take_frame<B: WatchedBus, S: Sink>(
         &mut self,
         bus: &mut B,
@@ -77,7 +80,7 @@ impl Exchange {
         Ok(true)
     }
 
-    /// Takes all frames that wait for the socket, and appends them to the trace.
+    /// Takes all frames that wait for the socket, and appends them to the trace. Fails if the sink failed.
     fn take_all<B: WatchedBus, S: Sink>(
         &mut self,
         bus: &mut B,
@@ -141,8 +144,9 @@ impl Exchange {
         error != SendError::RingFull
     }
 
-    /// Passes a frame to the driver, and makes turns while the transmit ring is full. Returns `false` after a turn
-    /// before which the ring was full, if `quiet` is then at least `idle`. Otherwise returns `true`.
+    /// Passes a frame to the driver. While the transmit ring is full, makes a turn and tries again. Returns `false` if
+    /// `quiet` is at least `idle` after such a turn: the frame wasn't passed. Otherwise sets `quiet` to 0, and returns
+    /// `true`. Fails if a turn fails.
     fn send<B: WatchedBus, S: Sink>(
         &mut self,
         bus: &mut B,
@@ -190,7 +194,7 @@ impl Exchange {
     }
 
     /// Passes the frames of a list to the driver, in order, until `send` returns `false`. After each frame that was
-    /// passed, makes a turn if the interrupt line is asserted.
+    /// passed, makes a turn if the interrupt line is asserted. Fails if a turn fails.
     pub(crate) fn send_all<B: WatchedBus, S: Sink>(
         &mut self,
         bus: &mut B,
@@ -219,8 +223,8 @@ impl Exchange {
         Ok(handed)
     }
 
-    /// Makes turns until the number of frames in `limits.expect` was received, if there is one, or `quiet` is at least
-    /// `limits.idle`.
+    /// Makes turns until `quiet` is at least `limits.idle`, or at least `limits.expect` frames were received. If
+    /// `limits.expect` is `None`, only `limits.idle` ends the turns. Fails if a turn fails.
     pub(crate) fn wait<B: WatchedBus, S: Sink>(
         &mut self,
         bus: &mut B,

@@ -85,7 +85,8 @@ impl<R: BufRead> Answers<R> {
         }
     }
 
-    /// Reads lines up to and including the next answer, and stores the level that the last `IRQ` line reports.
+    /// Reads lines up to and including the next answer. Stores the level that the last `IRQ` line before the answer
+    /// reports, if there is such a line.
     fn next(&mut self) -> Result<(), BusFault> {
         for _count in turns() {
             self.read_line()?;
@@ -109,7 +110,7 @@ impl<R: BufRead> Answers<R> {
     }
 
     /// Reads the answer to a read of bytes, and fills `into` with the bytes. The answer must have two digits for each
-    /// byte.
+    /// byte. After an error, `into` may be changed.
     pub(crate) fn bytes(&mut self, into: &mut [u8]) -> Result<(), BusFault>
         ensures length { length into.new ≡ length into.old }
     {

@@ -109,7 +109,8 @@ impl<R: BufRead, W: Write> QtestBus<R, W> {
         }
     }
 
-    /// Writes the request for the value of a register, and reads the answer.
+    /// Writes the request for the value of a register, and reads the answer. The bus must not have stopped. The request
+    /// doesn't contain the register's value, so the clause `asked` states any value: 0.
     fn ask_register(&mut self, offset: u32) -> Result<u32, BusFault>
         requires { self.old.fault ≡ None }
         ensures same { HasAsked self.old self.new }
@@ -132,7 +133,7 @@ impl<R: BufRead, W: Write> QtestBus<R, W> {
         }
     }
 
-    /// Writes the request to write a register, and reads the answer.
+    /// Writes the request to write a register, and reads the answer. The bus must not have stopped.
     fn ask_write(&mut self, offset: u32, value: u32) -> Result<(), BusFault>
         requires { self.old.fault ≡ None }
         ensures same { HasAsked self.old self.new }
@@ -158,7 +159,8 @@ impl<R: BufRead, W: Write> QtestBus<R, W> {
         }
     }
 
-    /// Writes the request for bytes of memory, and reads the answer.
+    /// Writes the request for bytes of memory, and reads the answer. The bus must not have stopped. After an error,
+    /// `into` may be changed.
     fn ask_bytes(&mut self, address: u64, into: &mut [u8]) -> Result<(), BusFault>
         requires { self.old.fault ≡ None }
         ensures same { HasAsked self.old self.new }
@@ -182,7 +184,7 @@ impl<R: BufRead, W: Write> QtestBus<R, W> {
         }
     }
 
-    /// Writes the request to store bytes in memory, and reads the answer.
+    /// Writes the request to store bytes in memory, and reads the answer. The bus must not have stopped.
     fn ask_store(&mut self, address: u64, bytes: &[u8]) -> Result<(), BusFault>
         requires { self.old.fault ≡ None }
         ensures same { HasAsked self.old self.new }
@@ -203,7 +205,8 @@ impl<R: BufRead, W: Write> Bus for QtestBus<R, W> {
 
     ghost extent = { memory_size };
 
-    // Contracts know nothing about the other program.
+    // Contracts know nothing about the other program. So the bus is never honest or lively, `world` is an arbitrary
+    // world, and `happened` holds for each past.
     ghost honest = { is_never };
 
     ghost lively = { is_never };

@@ -47,7 +47,8 @@ impl<W: Write> Requests<W> {
         self.registers.wrapping_add(u64::from(offset))
     }
 
-    /// Writes the request for the value of a register.
+    /// Writes the request for the value of a register. The request doesn't contain the value, so the clause states any
+    /// value: 0.
     pub(crate) fn read(&mut self, offset: u32) -> Result<(), BusFault>
         ensures sent { OnOk result (Appends (W.contents self.old.output) (W.contents self.new.output)
             (request_of self.old.registers (Reads offset 0))) }

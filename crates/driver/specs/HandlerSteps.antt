@@ -46,13 +46,17 @@ pub data IsSublist {X : Type 0} : List X → List X → Type 0 where
   part_with : {one : X} {some all : List X} → IsSublist some all → IsSublist (one ∷ some) (one ∷ all)
   part_without : {one : X} {some all : List X} → IsSublist some all → IsSublist some (one ∷ all)
 
--- A receiver was shown the frame `received`. If the receiver kept the frame, the pool has the same numbers. Otherwise the frame's buffers
+-- A receiver was shown the frame `received`. If the receiver kept the frame, no buffer was added to the pool. Otherwise the frame's buffers
 -- were added to the pool.
 pub record Shows {R : Type 0} (took : R → R → List Received → List Received → Type 0) (before after : R) (received : Received)
     (pool pool' : List ℕ) : Type 0 where
+  -- the frames that the receiver kept
   pub kept : List Received
+  -- the receiver was shown this frame, and kept the frames `kept`
   pub shown : took before after (received ∷ []) kept
+  -- the receiver kept no frame, or this frame
   pub whether : (kept ≡ []) ⊎ (kept ≡ received ∷ [])
+  -- the buffers of the frame, if it wasn't kept, were added to the pool
   pub buffers : HaveSameNumbers (buffers_in received.parts ++ pool) (pool' ++ buffers_of kept)
 
 -- A run of slots that left the ring, and whether it was shown to the receiver as a whole frame. A run that wasn't shown is bad.
@@ -62,6 +66,7 @@ pub record RunOfSlots : Type 0 where
   -- whether the run was shown as a whole frame
   pub whole : Bool
 
+-- the run with these parts, and whether it was shown as a whole frame
 abbrev pub run_with : List Part → (whole : Bool) → RunOfSlots
 run_with parts whole = record { parts = parts; whole = whole }
 
@@ -112,11 +117,13 @@ pub record ShowsRuns {R : Type 0} (took : R → R → List Received → List Rec
 -- `ShowsRuns` holds. The buffers of the bad runs, and of the frames that the receiver didn't keep, were added to the pool.
 pub record ShowsAll {R : Type 0} (took : R → R → List Received → List Received → Type 0) (before after : R) (runs : List RunOfSlots)
     (pool pool' : List ℕ) : Type 0 where
+  -- the frames that the receiver was shown, and those that it kept
   pub receiver : ShowsRuns took before after runs
+  -- each buffer of the runs was added to the pool, or belongs to a frame that the receiver kept
   pub buffers : HaveSameNumbers (run_buffers runs ++ pool) (pool' ++ buffers_of receiver.kept)
 
--- A run was passed on. If the run is whole, its frame was shown to the receiver, and the count of bad runs is the same. Otherwise the run
--- was counted as bad, and its buffers were added to the pool.
+-- A run was passed on. If the run is whole, its frame was shown to the receiver, and the count of bad runs is the same. If the run is bad,
+-- it was counted. The buffers of a bad run, or of a frame that the receiver didn't keep, were added to the pool.
 pub record PassesOn {R : Type 0} (took : R → R → List Received → List Received → Type 0) (before after : R) (run : RunOfSlots)
     (d d' : DriverState) : Type 0 where
   pub shows : ShowsAll took before after (run ∷ []) d.pool d'.pool
@@ -125,8 +132,11 @@ pub record PassesOn {R : Type 0} (took : R → R → List Received → List Rece
 -- The slots of the run, which were the oldest outstanding slots, left the ring. `parts` are the buffers of these slots, each with its
 -- length in the run. In the driver's state, only the oldest slot and the outstanding slots changed.
 pub record LeavesRing (run : Run) (parts : List Part) (d d' : DriverState) : Type 0 where
+  -- the buffers of the parts were those of the oldest outstanding slots
   pub first : d.buffers ≡ buffers_in parts ++ d'.buffers
+  -- the lengths of the parts are those of the run
   pub lengths : lengths_in parts ≡ take run.count run.lengths
+  -- the oldest slot is the slot after the run, and otherwise only the outstanding slots changed
   pub others : d' ≡ after_slots d run.count d'.buffers d.handed_out
 
 -- The parts have the lengths of the run, and the length of the run is their sum. If the run is whole, its length is
@@ -324,7 +334,7 @@ pub record ReadsMisses (d d' : DriverState) : Type 0 where
   pub misses : ℕ
   -- the sum grew by this value, up to the greatest u64
   pub missed : d'.missed ≡ (missed_added misses d).missed
-  -- the sum is exact exactly if it was exact before, the value is below MPC's greatest value, and the sum didn't
+  -- the sum is exact if and only if it was exact before, the value is below MPC's greatest value, and the sum didn't
   -- saturate
   pub exact : d'.exact ≡ (missed_added misses d).exact
 

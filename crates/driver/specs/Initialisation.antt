@@ -47,9 +47,12 @@ IsErrorOfInit error image accesses = IsErrorOf error image accesses
 
 -- Initialization ended with this error.
 pub record RefusesInit {B : Type 0} (bus : Ghosts B) (old new : B) (error : InitError) : Type 0 where
+  -- what happened in the call
   pub past : Past
   pub reports : bus.happened old new past
+  -- what is known after this error
   pub why : IsErrorOfInit error (bus.world old).adapter.image (length past.accesses)
+  -- what else is known if the bus is lively (`IsErrorOfLively`)
   pub why_lively : bus.lively old → IsErrorOfLively error (bus.world old)
 
 -- Parts of initialization
@@ -177,11 +180,17 @@ pub record Initialises {B : Type 0} (bus : Ghosts B) (config : Config) (old new 
 
 -- The state of a driver that `init` returns, over any bus.
 pub record IsFresh (config : Config) (driver : DriverState) : Type 0 where
+  -- the layout is that of the configuration
   pub layout : driver.layout ≡ configured_counts config
+  -- a new driver (`new_driver`), in which some buffers are in outstanding slots, and the others are free
   pub new : driver ≡ with_owners (new_driver (configured_counts config) driver.setup driver.groups []) driver.buffers [] driver.pool []
+  -- the setup is that of the configuration, with some address
   pub setup : driver.setup ≡ setup_of config driver.setup.address
   -- the driver has joined exactly the groups of the configuration, each once
   pub joined : AreNamedOnce config.groups.items driver.groups
+  -- each buffer is free or in an outstanding slot
   pub one_owner : HasOneOwner driver.layout.buffers (owners driver)
+  -- others hold no piece
   pub none_out : driver.handed_out ≡ []
+  -- all receive slots except one are outstanding, or no buffer is free
   pub refilled : IsRefilled driver

@@ -16,6 +16,8 @@ use Rattle.driver.specs.declared.setup.Setup.{Setup}
 abbrev pub offered_count : Inside → ℕ
 offered_count driver = length driver.buffers.items - driver.staged
 
+-- The driver's state in contracts. The queue is split into the buffers of the outstanding slots and those of the staged slots. `Driver`
+-- doesn't store which pieces others hold, so `handed_out` is empty.
 abbrev pub driver_state_of : Inside → DriverState
 driver_state_of driver = record {
   layout = driver.layout;
@@ -36,29 +38,44 @@ driver_state_of driver = record {
 -- What always holds of the receive side. The queue contains the buffers of the outstanding and staged slots, which begin at `oldest` and
 -- end before `next`.
 pub record HasReceiveSide (counts : Counts) (oldest next staged : ℕ) (queue : Buffer ℕ) (pool : Numbers) : Type 0 where
+  -- the oldest slot is in the ring
   pub oldest_slot : oldest < counts.rx
+  -- at least one slot is neither outstanding nor staged
   pub room : length queue.items < counts.rx
+  -- `next` is the slot after the outstanding and staged slots
   pub next_slot : next ≡ place counts.rx oldest (length queue.items)
+  -- the queue has room for a buffer for each slot
   pub capacity : queue.capacity ≡ counts.rx
+  -- the queue contains the buffers of all staged slots
   pub some_staged : staged ≤ length queue.items
+  -- the pool is for all receive buffers
   pub buffers : pool.buffers ≡ counts.buffers
   -- no buffer has two owners
   pub owners : HasNoSecondOwner counts.buffers (pool.free ++ queue.items)
 
 -- What always holds of the transmit side. The outstanding slots begin at `oldest` and end before `next`.
 pub record IsSending (counts : Counts) (oldest next sending : ℕ) : Type 0 where
+  -- the oldest slot is in the ring
   pub oldest_slot : oldest < counts.tx
+  -- at least one slot isn't outstanding
   pub room : sending < counts.tx
+  -- `next` is the slot after the outstanding slots
   pub next_slot : next ≡ place counts.tx oldest sending
 
 -- The sizes of the rings, the number of receive buffers, and the setup are valid.
 pub record CanReset (counts : Counts) (setup : Setup) : Type 0 where
+  -- the sizes of the rings and the number of receive buffers are valid
   pub allowed : IsAllowed counts
+  -- the value of RXA and the VLANs are valid
   pub right : IsRightSetup setup
 
+-- The invariant of `Driver`: what always holds of its fields.
 pub record IsConsistentDriver (driver : Inside) : Type 0 where
+  -- the receive side
   pub receives : HasReceiveSide driver.layout driver.oldest_receive driver.next_receive driver.staged driver.buffers driver.pool
+  -- the transmit side
   pub sends : IsSending driver.layout driver.oldest_transmit driver.next_transmit driver.sending
+  -- the layout and the setup are valid
   pub resets : CanReset driver.layout driver.setup
   -- the sum of missed frames is exact if it is below MPC's greatest value
   pub sums : driver.missed < greatest_count → IsTrue driver.exact

@@ -7,6 +7,7 @@ use Rattle.bring_up.specs.ConfiguredAdapters.{names_vlans}
 use Rattle.bus.specs.DriverState.{DriverSetup}
 use Rattle.driver.specs.declared.setup.Setup.{Setup}
 
+-- The driver's setup in contracts, from a stored `Setup`. If `Setup.vlans` is `None`, `by_vlan` is false, and `vlans` is empty.
 abbrev pub setup_in : Setup → DriverSetup
 setup_in setup = record {
   rxa = setup.rxa;
@@ -16,7 +17,9 @@ setup_in setup = record {
   address = setup.address;
 }
 
--- The value of RXA is a valid allocation, and each VLAN has 12 bits.
+-- The value of RXA is valid, and each VLAN has 12 bits.
 pub record IsRightSetup (setup : Setup) : Type 0 where
+  -- RXA is even, from 2 to 48
   pub allocation : IsAllocation setup.rxa
+  -- each VLAN is below 4,096
   pub vlans : All (λ vlan. vlan < table_numbers) (vlans_of setup.vlans)

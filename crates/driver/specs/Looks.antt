@@ -45,9 +45,11 @@ pub record IsSoundPart (descriptor : RxDesc) : Type 0 where
 -- The run has one to six slots, and at most `outstanding`. Its length is the sum of the slots' lengths. If the run is
 -- whole, its length is legal, each buffer before the last is full, and the last contains at least one byte.
 pub record IsLookedRun (outstanding : ℕ) (run : Run) : Type 0 where
+  -- `lengths` has an item for each of at most six slots
   pub room : length run.lengths ≡ MOST_PARTS
   pub least : 1 ≤ run.count
   pub most : run.count ≤ MOST_PARTS
+  -- all slots of the run are outstanding
   pub inside : run.count ≤ outstanding
   pub length_is : run.length ≡ sum (take run.count run.lengths)
   pub size : IsTrue run.whole → IsFrameSize run.length

@@ -30,11 +30,12 @@ use dma_memory::{DESCRIPTOR_BYTES, Layout, Pool};
 use std::alloc::{AllocError, Global};
 
 /// Finds the device, and sets up its receive filter and its receive ring, with no slot offered. Returns the Ethernet
-/// address in the device's EEPROM.
+/// address in the device's EEPROM. `config` must be valid in the memory of the bus, and `layout` must be the layout of
+/// `config`.
 ///
 /// # Errors
 ///
-/// Those of [`find_device`].
+/// Those of [`find_device`], which aren't E10 or E15.
 fn find_ring<B: Bus>(bus: &mut B, config: &Config, layout: Layout) -> Result<[u8; 6], InitError>
     requires counts { layout ≡ configured_counts config.now }
     requires had { CanBeHad config.now (B.extent bus.old) }
@@ -65,6 +66,10 @@ pub(crate) fn place_of(base: u64, slots: u16) -> RingPlace
 }
 
 /// Clears the descriptors of the transmit ring, sets up this ring with no slot offered, and enables the transmitter.
+/// `layout` must be valid, and `bus` must have at least `layout.size()` bytes.
+///
+/// The clause `ran` is for a driver that is ready with its transmit side off, has no outstanding transmit slot, and has
+/// slot 0 as its oldest transmit slot. The registers of the transmit ring must be 0, as after a reset.
 pub(crate) fn set_up_transmitter<B: Bus>(bus: &mut B, layout: Layout)
     requires allowed { IsAllowed layout }
     requires memory { size_of layout ≤ B.extent bus.old }
@@ -80,8 +85,9 @@ pub(crate) fn set_up_transmitter<B: Bus>(bus: &mut B, layout: Layout)
 }
 
 impl Driver {
-    /// Returns a driver with this setup that has offered no slot, has joined these groups, and has all buffers in its
-    /// pool. Returns an error if an allocation fails.
+    /// Returns a driver with this layout and this setup. Both must be valid (`CanReset`). The driver has offered no
+    /// slot, has joined these groups, and has each buffer of the layout once in its pool. Returns an error if an
+    /// allocation fails.
     fn new(
         alloc: Global,
         layout: Layout,
@@ -118,7 +124,8 @@ impl Driver {
     }
 
     /// Stages all receive slots except the last one, clears the descriptor of the last slot, and offers the staged
-    /// slots.
+    /// slots. The driver must have offered no slot, must have each buffer once in its pool, and must have at least one
+    /// buffer for each receive slot.
     fn offer_first<B: Bus>(&mut self, bus: &mut B)
         requires memory { size_of self.old.layout ≤ B.extent bus.old }
         requires new { self.old ≡ new_driver self.old.layout self.old.setup self.old.groups self.old.pool }
@@ -141,7 +148,7 @@ impl Driver {
     ///
     /// # Errors
     ///
-    /// [`Config`](InitError::Config) if the configuration isn't valid in the memory of the bus, else
+    /// E15 [`Config`](InitError::Config) if the configuration isn't valid in the memory of the bus, else E10
     /// [`Memory`](InitError::Memory) if an allocation fails, else those of [`find_device`].
     pub fn init<B: Bus>(alloc: Global, bus: &mut B, config: &Config) -> Result<Driver, InitError>
         ensures keeps { Keeps B.Bus bus.old bus.new }

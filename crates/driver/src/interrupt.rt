@@ -47,9 +47,10 @@ fn adds_exactly(missed: u64, value: u32) -> bool
 }
 
 impl Driver {
-    /// Reads MPC, adds its value to the sum of missed frames, up to the greatest `u64`, and returns this value. The
-    /// sum remains exact only if the value is added exactly (`adds_exactly`). RCTL doesn't change (`settings`): a reset
-    /// disables the receiver before this call.
+    /// Reads MPC, adds its value to the sum of missed frames, up to the greatest `u64`, and returns this value. The sum
+    /// remains exact only if the value is added exactly (`adds_exactly`). If the bus obeys the law, MPC is 0 after the
+    /// call (`cleared`), and RCTL doesn't change (`settings`). So a receiver that a reset has disabled remains
+    /// disabled.
     pub(crate) fn count_missed<B: Bus>(&mut self, bus: &mut B) -> u32
         ensures keeps { Keeps B.Bus bus.old bus.new }
         ensures others { self.new ≡ missed_added result self.old }
@@ -64,7 +65,7 @@ impl Driver {
         value
     }
 
-    /// Handles an interrupt. Returns the number of frames taken off the receive ring, or `NotMine` if the value of ICR
+    /// Handles an interrupt. Returns the number of frames that the receiver was shown, or `NotMine` if the value of ICR
     /// has none of the four causes below. The handler frees no transmit slots.
     ///
     /// If the bus obeys the law and the driver is ready, the call makes these accesses, in order:

@@ -30,7 +30,8 @@ pub(crate) struct Run {
     /// The sum of the slots' lengths.
     pub length: u32,
     /// Whether the slots contain a whole frame: the last descriptor has EOP, and no descriptor has errors. Each buffer
-    /// except the last is full, and the last isn't empty. The sum of the lengths is 60 to 1,518 bytes.
+    /// except the last is full, and the last isn't empty. The sum of the lengths is 60 to 1,518 bytes. Until
+    /// [`look`](Driver::look) has seen the last slot: whether each slot may contain a piece of a whole frame.
     pub whole: bool,
 }
 
@@ -48,8 +49,8 @@ fn is_ended(descriptor: &RxDesc) -> bool
     descriptor.status.contains(RxStatus::EOP)
 }
 
-/// Returns whether a slot with this descriptor may contain a piece of a whole frame. The descriptor must have no
-/// errors. Its length must be 256 bytes, or 1 to 256 bytes with EOP.
+/// Returns whether a slot with this descriptor may contain a piece of a whole frame: the descriptor has no errors, and
+/// its length is 256 bytes without EOP, or 1 to 256 bytes with EOP.
 fn is_sound(descriptor: &RxDesc) -> bool
     ensures { IsTrue result ↔ IsSoundPart descriptor.now }
 {
@@ -77,7 +78,8 @@ impl Run {
     }
 
     /// Appends a slot with this descriptor. The run is no longer whole if the slot can't contain a piece of a whole
-    /// frame.
+    /// frame. Before the call, the run must have fewer than six slots. Its length must be at most 65,535 bytes for each
+    /// slot (`short`), so that the sum doesn't overflow.
     fn add(&mut self, descriptor: &RxDesc)
         requires room { self.old.count < MOST_PARTS }
         requires short { self.old.length ≤ greatest_length * self.old.count }
@@ -92,8 +94,8 @@ impl Run {
         self.count += 1;
     }
 
-    /// Returns whether the run contains a whole frame. Each slot may contain a piece of a whole frame, and the sum of
-    /// the lengths is 60 to 1,518 bytes. The last descriptor must have EOP.
+    /// Returns whether each slot may contain a piece of a whole frame, and the sum of the lengths is 60 to 1,518 bytes.
+    /// If the last descriptor has EOP, the run then contains a whole frame.
     fn is_frame(&self) -> bool
         ensures { IsTrue result ↔ (IsTrue self.now.whole × IsFrameSize self.now.length) }
     {
@@ -110,7 +112,8 @@ impl Driver {
         self.buffers.len() - usize::from(self.staged)
     }
 
-    /// Loads and returns the descriptor of the slot that is `places` places after the oldest slot.
+    /// Loads and returns the descriptor of the slot that is `places` places after the oldest slot. `places` must be
+    /// below the number of outstanding slots.
     fn descriptor_after<B: Bus>(&self, bus: &mut B, places: usize) -> RxDesc
         requires memory { size_of self.now.layout ≤ B.extent bus.old }
         requires outstanding { places < length self.now.buffers }
@@ -130,7 +133,7 @@ impl Driver {
     /// frame has at most six pieces. Returns `None` if the call first reaches a slot that isn't finished or isn't
     /// outstanding. DD, EOP and the length of a slot come from the same load. No slot is taken.
     ///
-    /// The number of outstanding slots fits into `usize`, and no receive buffer has two owners.
+    /// The number of outstanding slots fits into `usize` (`fits`), and no receive buffer has two owners (`one_owner`).
     pub(crate) fn look<B: Bus>(&self, bus: &mut B) -> Option<Run>
         requires memory { size_of self.now.layout ≤ B.extent bus.old }
         ensures keeps { Keeps B.Bus bus.old bus.new }
@@ -152,9 +155,11 @@ impl Driver {
                 return Some(run);
             }
         }
+        // If the run has fewer than six slots, all outstanding slots are finished, but no frame ends in them.
         if run.count < MOST_PARTS {
             return None;
         }
+        // The run has six slots without EOP, so it isn't a whole frame.
         run.whole = false;
         Some(run)
     }

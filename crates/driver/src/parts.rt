@@ -61,6 +61,7 @@ impl Parts {
     pub fn get(&self, index: usize) -> Option<&Part>
         ensures none { IfNone result (length self.now ≤ index) }
         ensures some { IfSome result (λ part. index < length self.now) }
+        // The index is below the number of pieces, so the default value `part.now` isn't used.
         ensures part { IfSome result (λ part. part.now ≡ slice_index_or self.now index part.now) }
         ensures most { length self.now ≤ MOST_PARTS }
     {

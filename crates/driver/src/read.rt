@@ -25,7 +25,7 @@ impl Driver {
         ensures length { result ≡ received.now.length }
         ensures rest { drop result into.new ≡ drop result into.old }
 
-        // Over a bus that obeys the law.
+        // Over a bus that obeys the law, with a ready driver. `frame`: if others hold this frame, its bytes are copied.
         ensures ran { Runs B.Bus (only (part_loads self.now.layout received.now.parts))
             (at bus.old self.now) (at bus.new self.now) }
         ensures frame { ReadsHeld B.Bus received.now (at bus.old self.now) (take result into.new) }

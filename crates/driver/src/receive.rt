@@ -20,7 +20,8 @@ use dma_memory::BufId;
 /// The offset of the EtherType in a frame, in bytes.
 const ETHER_TYPE: u64 = 12;
 
-/// Removes the oldest buffers from a queue, one for each length, and returns them with these lengths.
+/// Removes the oldest buffers from a queue, one for each length, and returns them with these lengths. There must be at
+/// most six lengths, and the queue must contain a buffer for each length.
 fn take_parts(queue: &mut HeapCircularBuffer<BufId>, lengths: &[u16]) -> Parts
     requires few { length lengths.now ≤ MOST_PARTS }
     requires enough { length lengths.now ≤ length queue.old.items }
@@ -30,6 +31,7 @@ fn take_parts(queue: &mut HeapCircularBuffer<BufId>, lengths: &[u16]) -> Parts
 {
     let mut parts = Parts::new();
     for length in lengths {
+        // The queue contains a buffer for each length, so `pop_front` never returns `None` here.
         if let Some(buffer) = queue.pop_front() {
             parts.push(Part {
                 buffer,
@@ -41,7 +43,8 @@ fn take_parts(queue: &mut HeapCircularBuffer<BufId>, lengths: &[u16]) -> Parts
 }
 
 impl Driver {
-    /// Takes the slots of a run off the ring, and returns their buffers, each with the length of its data.
+    /// Takes the slots of a run off the ring, and returns their buffers, each with the length of its data. The run must
+    /// have at most six slots, and all these slots must be outstanding.
     fn take_run(&mut self, run: &Run) -> Parts
         requires size { length run.now.lengths ≡ MOST_PARTS }
         requires few { run.now.count ≤ MOST_PARTS }
@@ -55,7 +58,7 @@ impl Driver {
     }
 
     /// Returns bytes 12 and 13 of the frame in these buffers, by one load from the first buffer. Returns 0 if there is
-    /// no buffer.
+    /// no buffer. The numbers of these buffers must be below the number of the driver's buffers.
     fn ether_type<B: Bus>(&self, bus: &mut B, parts: &Parts) -> u16
         requires memory { size_of self.now.layout ≤ B.extent bus.old }
         requires known { All (λ number. number < self.now.layout.buffers) (buffers_in parts.now) }
@@ -75,7 +78,8 @@ impl Driver {
         u16::from_be_bytes(bytes)
     }
 
-    /// Shows a frame to the receiver. If the receiver returns the frame's buffers, they are put into the pool.
+    /// Shows a frame to the receiver. If the receiver returns the frame's buffers, they are put into the pool. Before
+    /// the call, these buffers must have no other owner.
     fn show<R: Receiver>(&mut self, received: Received, receiver: &mut R)
         requires one_owner { HasNoSecondOwner self.old.layout.buffers (buffers_in received.parts ++ owners self.old) }
         ensures others { self.new ≡ record self.old { pool = self.new.pool } }
@@ -86,7 +90,8 @@ impl Driver {
     }
 
     /// Passes on a run that was taken, and returns whether the run contains a whole frame. A whole frame is shown to
-    /// the receiver. The buffers of any other run return to the pool, and the run is counted as bad.
+    /// the receiver. The buffers of any other run return to the pool, and the run is counted as bad. `parts` must be
+    /// the buffers of the run with their lengths, and these buffers must have no other owner.
     fn pass_on<B: Bus, R: Receiver>(
         &mut self,
         bus: &mut B,
@@ -100,7 +105,7 @@ impl Driver {
         ensures keeps { Keeps B.Bus bus.old bus.new }
         ensures whole { result ≡ run.now.whole }
         ensures others { self.new ≡ record self.old { pool = self.new.pool; bad = self.new.bad } }
-        // Who owns the buffers after the call, over any bus.
+        // The frame shown and the owners of the buffers, over any bus.
         ensures hands { PassesOn R.took receiver.old receiver.new (run_with parts result) self.old self.new }
         // The access of a whole frame, over a bus that obeys the law.
         ensures over { WhereTaken B.Bus parts result
@@ -113,6 +118,7 @@ impl Driver {
             return false;
         }
         let ether_type = self.ether_type(bus, &parts);
+        // A whole frame has at most 1,518 bytes, so its length fits into `u16`.
         let received = Received {
             parts,
             length: run.length as u16,

@@ -41,7 +41,8 @@ fn descriptor_of(buffer: u64) -> RxDesc
     }
 }
 
-/// Puts the buffers of these pieces back into the pool.
+/// Puts the buffers of these pieces back into the pool. The numbers of these buffers must be below the number of the
+/// pool's buffers, and no buffer may be in the pool already, or in two pieces.
 fn give_all(pool: &mut Pool, parts: Parts)
     requires { HasNoSecondOwner pool.old.buffers (buffers_in parts ++ pool.old.free) }
     ensures given { HaveSameNumbers (buffers_in parts ++ pool.old.free) pool.new.free }
@@ -55,7 +56,7 @@ fn give_all(pool: &mut Pool, parts: Parts)
 
 impl Driver {
     /// Stages the next receive slot: stores its descriptor, with a free buffer. Returns `false`, and does nothing, if
-    /// no buffer is free or only one slot is neither outstanding nor staged.
+    /// no buffer is free, or all receive slots except one are outstanding or staged.
     fn stage<B: Bus>(&mut self, bus: &mut B) -> bool
         requires memory { size_of self.old.layout ≤ B.extent bus.old }
         ensures keeps { Keeps B.Bus bus.old bus.new }
@@ -68,6 +69,7 @@ impl Driver {
             ((self.new.pool ≡ []) ⊎ (length self.new.buffers + length self.new.staged + 1 ≡ self.new.layout.rx)) }
     {
         let count = self.layout.rx();
+        // The queue contains the buffers of the outstanding and the staged slots.
         if self.buffers.len() + 1 == usize::from(count) {
             return false;
         }
@@ -83,7 +85,7 @@ impl Driver {
         true
     }
 
-    /// Stages slots until no buffer is free, or only one slot is neither outstanding nor staged.
+    /// Stages receive slots until no buffer is free, or all receive slots except one are outstanding or staged.
     pub(crate) fn stage_all<B: Bus>(&mut self, bus: &mut B)
         requires memory { size_of self.old.layout ≤ B.extent bus.old }
         ensures keeps { Keeps B.Bus bus.old bus.new }
@@ -123,7 +125,8 @@ impl Driver {
         self.offer_all(bus);
     }
 
-    /// Puts the buffers of a frame's pieces back into the pool.
+    /// Puts the buffers of a frame's pieces back into the pool. The numbers of these buffers must be below the number
+    /// of the driver's buffers, and the buffers must have no other owner.
     pub(crate) fn put_back(&mut self, parts: Parts)
         requires one_owner { HasNoSecondOwner self.old.layout.buffers (buffers_in parts ++ owners self.old) }
         ensures others { self.new ≡ record self.old { pool = self.new.pool } }
@@ -148,9 +151,9 @@ impl Driver {
         self.offer(bus);
     }
 
-    /// Puts the buffers of a frame that a receiver kept back into the pool, and refills the ring. The numbers of these
-    /// buffers must be below the number of the driver's buffers, and the buffers must have no other owner. `bus` must
-    /// have at least `layout().size()` bytes.
+    /// Takes back the buffers of a frame from its receiver: puts them into the pool, and refills the ring. The numbers
+    /// of these buffers must be below the number of the driver's buffers, and the buffers must have no other owner.
+    /// `bus` must have at least `layout().size()` bytes.
     pub fn give<B: Bus>(&mut self, bus: &mut B, parts: Parts)
         requires memory { size_of self.old.layout ≤ B.extent bus.old }
         requires one_owner { HasNoSecondOwner self.old.layout.buffers (buffers_in parts ++ owners self.old) }

@@ -20,7 +20,8 @@ use bus::Bus;
 use circular_buffer::HeapCircularBuffer;
 use dma_memory::{BufId, Pool};
 
-/// Removes all buffers from the queue, and puts them back into the pool.
+/// Removes all buffers from the queue, and puts them back into the pool. The numbers of these buffers must be below the
+/// number of the pool's buffers, and no buffer may have two owners.
 fn give_buffers(pool: &mut Pool, buffers: &mut HeapCircularBuffer<BufId>)
     requires { HasNoSecondOwner pool.old.buffers (pool.old.free ++ buffers.old.items) }
     ensures none { buffers.new.items ≡ [] }
@@ -57,7 +58,7 @@ impl Driver {
         self.sending = 0;
     }
 
-    /// Returns the number of staged slots.
+    /// Returns the number of staged slots. At least one receive slot is neither outstanding nor staged (`room`).
     fn staged_count(&self) -> u16
         ensures count { result ≡ length self.now.staged }
         ensures room { length self.now.buffers + length self.now.staged < self.now.layout.rx }
@@ -66,7 +67,8 @@ impl Driver {
     }
 
     /// Stages receive slots until no buffer is free, or only one slot isn't staged. Clears the descriptors of the other
-    /// slots, and then offers the staged slots.
+    /// slots, and then offers the staged slots. Writes RDT even if no slot is staged. Before the call, no receive slot
+    /// may be outstanding or staged, and the next slot to be offered must be slot 0.
     fn offer_free<B: Bus>(&mut self, bus: &mut B)
         requires memory { size_of self.old.layout ≤ B.extent bus.old }
         requires first { self.old.oldest_receive ≡ 0 }
@@ -81,9 +83,10 @@ impl Driver {
         self.offer_all(bus);
     }
 
-    /// Resets the adapter and sets it up again as [`init`](Driver::init) did, with the groups joined now. Unlike
-    /// `init`, the call doesn't read the EEPROM, and doesn't wait for the link. If the link is up and no MDIC command
-    /// is pending, the link remains up.
+    /// Resets the adapter and sets it up again as [`init`](Driver::init) did, with the groups joined now. Before the
+    /// reset, the call disables the receiver, and adds MPC to the sum of missed frames. Unlike `init`, the call doesn't
+    /// read the EEPROM, and doesn't wait for the link. If the link is up and no MDIC command is pending, the link
+    /// remains up.
     ///
     /// Frames that are still to be sent, and frames that the driver hasn't taken, are lost. Frames that a receiver kept
     /// are still in their buffers. The call allocates no memory, and can't fail. `bus` must have at least

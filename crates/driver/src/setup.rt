@@ -22,7 +22,8 @@ pub(crate) struct Setup {
 }
 
 impl Setup {
-    /// Returns the setup of a configuration, with an address of zeros until the adapter's address is known.
+    /// Returns the setup of a configuration, with an address of zeros until the adapter's address is known. The value
+    /// of RXA, the groups and the VLANs of the configuration must be valid.
     pub(crate) fn of(config: &Config) -> Setup
         requires { HasRightNumbers config.now }
         ensures is { setup_in result ≡ setup_of config.now (replicate 6 0) }
@@ -52,7 +53,7 @@ fn copy_of(list: &ArrayVec<u16, MOST_VLANS>) -> ArrayVec<u16, MOST_VLANS>
     ensures { result ≡ list.now }
 {
     let mut copy = ArrayVec::new();
-    // The copy has room for as many VLANs as `list`, so all VLANs fit.
+    // The copy has the same capacity as `list`, so all VLANs fit, and the result is always Ok.
     let _fits = copy.try_extend_from_slice(list.as_slice());
     copy
 }

@@ -38,7 +38,8 @@ pub enum SendError {
     RingFull,
 }
 
-/// Returns the address of a transmit slot's descriptor.
+/// Returns the address of a transmit slot's descriptor. The ring must have this slot. Then the descriptor is inside the
+/// layout (`below_size`).
 fn descriptor_address(layout: Layout, slot: u16) -> u64
     requires { slot < layout.tx }
     ensures start { result ≡ transmit_slot layout slot }
@@ -72,8 +73,8 @@ fn whole_descriptor(buffer: u64, size: u16) -> [u8; TX_DESC_BYTES]
 }
 
 impl Driver {
-    /// Frees the oldest outstanding transmit slot if there is one and its descriptor has DD. Returns whether a slot was
-    /// freed.
+    /// Loads the descriptor of the oldest outstanding transmit slot, and frees this slot if the descriptor has DD. If
+    /// no transmit slot is outstanding, there is no access. Returns whether a slot was freed.
     fn free_oldest<B: Bus>(&mut self, bus: &mut B) -> bool
         requires memory { size_of self.old.layout ≤ B.extent bus.old }
         ensures keeps { Keeps B.Bus bus.old bus.new }
@@ -110,8 +111,8 @@ impl Driver {
     }
 
     /// Sends a frame of 14 to 1,518 bytes in the slot after the outstanding slots. Stores the frame's bytes into the
-    /// slot's buffer, then the slot's descriptor, and then writes TDT. At least two transmit slots must not be
-    /// outstanding.
+    /// slot's buffer, then the slot's descriptor, and then writes TDT. At least two transmit slots must be free: one
+    /// for the frame, and one because the slots of a ring are never all outstanding.
     fn send<B: Bus>(&mut self, bus: &mut B, frame: &[u8])
         requires memory { size_of self.old.layout ≤ B.extent bus.old }
         requires room { self.old.sending + 1 < self.old.layout.tx }
@@ -124,6 +125,7 @@ impl Driver {
     {
         let layout = self.layout;
         let buffer = layout.transmit_buffer(self.next_transmit);
+        // The length is at most 1,518 bytes, so it fits into `u16`.
         let descriptor = whole_descriptor(buffer, frame.len() as u16);
         bus.store(buffer, frame);
         bus.store(descriptor_address(layout, self.next_transmit), &descriptor);
@@ -134,17 +136,17 @@ impl Driver {
 
     /// Sends a frame of 14 to 1,518 bytes.
     ///
-    /// First the call frees the oldest transmit slots whose descriptors have DD, by one load each. If outstanding
-    /// slots remain, the descriptor of the oldest remaining slot is loaded, too. `bus` must have at least
-    /// `layout().size()` bytes. Over a bus that doesn't obey the law, all clauses except `transmits` hold.
+    /// First the call frees the oldest transmit slots whose descriptors have DD, by one load each. If outstanding slots
+    /// remain, the descriptor of the oldest remaining slot is loaded, too. Then the call stores the frame and its
+    /// descriptor, and writes TDT. `bus` must have at least `layout().size()` bytes.
     ///
     /// # Errors
     ///
     /// E20 [`TooShort`](SendError::TooShort) if the frame has fewer than 14 bytes, E21 [`TooLong`](SendError::TooLong)
     /// if the frame has more than 1,518 bytes; both without an access. E22 [`RingFull`](SendError::RingFull) only if
     /// all slots of the transmit ring except one are still outstanding after the call has freed slots whose descriptors
-    /// have DD. If the bus obeys the law and the driver is ready with its transmit side set up, the call made exactly
-    /// one load before E22. In this case the driver is unchanged.
+    /// have DD. If the bus obeys the law and the driver is ready with its transmit side set up, a call that returns E22
+    /// makes exactly one load, and the driver is unchanged.
     pub fn transmit<B: Bus>(&mut self, bus: &mut B, frame: &[u8]) -> Result<(), SendError>
         requires memory { size_of self.old.layout ≤ B.extent bus.old }
         ensures keeps { Keeps B.Bus bus.old bus.new }

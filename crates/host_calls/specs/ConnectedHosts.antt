@@ -27,5 +27,6 @@ pub record PlayedCall : Type 1 where
   -- the number of accesses of the call, which saturates at the greatest u64
   pub accesses : ℕ
 
+-- this call, with these fields
 abbrev pub played_call : (caller : ℕ) → List Tick → (heard : List TickTold → Type 0) → (accesses : ℕ) → PlayedCall
 played_call caller ticks heard accesses = record { caller = caller; ticks = ticks; heard = heard; accesses = accesses }

@@ -73,6 +73,7 @@ pub record IsToldByOutcomes (ticks : List Tick) (first last : List AtomicStep) :
   pub numbered : numbers ticks 0 (counted_of 0 first) ≡ noted_numbers (noted_of 0 (first ++ last))
   pub counted : counted_of 0 (first ++ last) ≡ counted_of 0 first
 
+-- `IsToldByOutcomes` holds for each call with its steps (`PlaysCall`).
 abbrev pub OutcomesTellSteps : Type 0
 OutcomesTellSteps =
     (call : CallWithSteps) (a m b : List StationState) → PlaysCall call a m b → IsToldByOutcomes call.ticks call.first call.last
@@ -86,6 +87,7 @@ pub record IsToldCall {O : Type 0} {g : OfObserver O} (a m b : LentBus O g) (pas
   pub heard : g.heard a.observer.now b.observer.now (steps_told 0 (first ++ last))
   pub count : b.accesses ≡ counted_of 0 first
 
+-- `IsToldCall` holds for each call over a lent bus that counted no access before the call.
 abbrev pub LentCallsAreTold : {O : Type 0} → OfObserver O → Type 0
 LentCallsAreTold {O} g =
     (a m b : LentBus O g) (past : Past) (told : HappenedLent a m past) (finished : Finished m b) → a.accesses ≡ 0
@@ -99,6 +101,7 @@ pub record IsBetween (middle ticked said : List Happening) : Type 0 where
   pub ticks : ticked ≡ before ++ behind
   pub all : said ≡ before ++ (middle ++ behind)
 
+-- `tick_happenings_around` inserts what the call itself did (`middle`) at one place (`IsBetween`).
 abbrev pub CallsAreToldBetweenTicks : Type 0
 CallsAreToldBetweenTicks =
     (middle : List Happening) (ticks : List Tick) (outcomes : List Numbered)
@@ -153,6 +156,7 @@ pub record LeadsAlone (step : AtomicStep) (old new : List StationState) : Type 0
   pub is_tick : IsTick step
   pub leads : (caller : ℕ) → LeadsTo caller (step ∷ []) old new
 
+-- `LeadsAlone` holds for the atomic step of a tick other than Go.
 abbrev pub OneTickLeads : Type 0
 OneTickLeads =
     (old new : List StationState) (tick : Tick) (outcome : FrameOutcome) (plays : PlaysTick old tick outcome new) → is_go tick ≡ false
@@ -173,6 +177,7 @@ pub record MovesFrames (k : ℕ) (steps : List AtomicStep) (a b : List StationSt
   pub none_accepted : accepted k (happened_in steps) ≡ []
   pub none_given : (socket : ℕ) → given k socket (happened_in steps) ≡ []
 
+-- `MovesFrames` holds for each host k, if the atomic steps lead from the stations `a` to `b`.
 abbrev pub StepsMoveFrames : Type 0
 StepsMoveFrames =
     (caller k : ℕ) (steps : List AtomicStep) (a b : List StationState) → LeadsTo caller steps a b → MovesFrames k steps a b
@@ -249,6 +254,7 @@ pub record ListsJoin (k : ℕ) (first later : List Happening) : Type 0 where
   pub toward : (wires : ℕ → Option ℕ) → toward wires k (first ++ later) ≡ toward wires k first ++ toward wires k later
   pub marks : marks k (first ++ later) ≡ marks k first ++ marks k later
 
+-- `ListsJoin` holds for each host k and for any two lists of happenings.
 abbrev pub DeliveriesJoin : Type 0
 DeliveriesJoin = (k : ℕ) (first later : List Happening) → ListsJoin k first later
 

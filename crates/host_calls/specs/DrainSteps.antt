@@ -74,6 +74,7 @@ pub record FrameSinkState : Type 0 where
   pub frames : List Given
   pub room : ℕ
 
+-- the state of a sink with these frames and this room
 abbrev pub frame_sink : List Given → ℕ → FrameSinkState
 frame_sink frames room = record { frames = frames; room = room }
 

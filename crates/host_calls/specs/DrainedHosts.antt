@@ -25,7 +25,8 @@ use Rattle.packet_socket.specs.HostState.{HostState, all_of}
 use Rattle.host_calls.specs.CallsOfHosts.{GroupsStay, HostRuns}
 use Rattle.host_calls.specs.ConnectedHosts.{ConnectedHost}
 
--- What a drain requires of a host.
+-- What a drain requires of a host: the host is ready, no work is forgotten, the receive ring is refilled, no slot is
+-- staged, and RCTL.EN is set.
 pub record CanBeDrained (host : HostState) (world : World) : Type 0 where
   pub ready : HostReady host world
   pub work : HasNoForgottenWork host.driver world

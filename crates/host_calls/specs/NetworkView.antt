@@ -3,6 +3,7 @@ use Rattle.std.specs.Prelude.{◌≡◌, length}
 use Rattle.host_calls.specs.Networks.{NetworkState}
 use Rattle.host_calls.specs.declared.network.Network.TheInside.{Inside}
 
+-- the value of a `Network` in contracts
 abbrev pub network_in : Inside → NetworkState
 network_in inside = record { hosts = inside.hosts.items; stations = inside.stations }
 

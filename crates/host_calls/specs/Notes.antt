@@ -43,6 +43,7 @@ pub record Notes : Type 0 where
   pub put : ℕ
   pub holding : List (List ℕ)
 
+-- The count of frames put is at most the greatest u64, and at most `most` frames are noted.
 pub record NotesFit (notes : Notes) : Type 0 where
   pub put : notes.put ≤ most_accesses
   pub holding : length notes.holding ≤ notes.most
@@ -56,6 +57,7 @@ noted_after told before = record {
   holding = take before.most (before.holding ++ flat_map (first_stored before.host) told);
 }
 
+-- The notes `before` became the notes `after` when these ticks were noted, and `after` fit.
 pub record Noting (before after : Notes) (told : List TickTold) : Type 0 where
   pub notes : after ≡ noted_after told before
   pub within : NotesFit after

@@ -3,6 +3,7 @@ use Rattle.std.specs.Prelude.{◌≤◌, vec_capacity}
 use Rattle.host_calls.specs.Notes.{NotesFit, Notes}
 use Rattle.host_calls.specs.declared.noting.Noted.TheInside.{Inside}
 
+-- the value of a `Noted` in contracts
 abbrev pub notes_of : Inside → Notes
 notes_of inside = record { host = inside.host; most = inside.most; put = inside.put; holding = inside.holding.items }
 

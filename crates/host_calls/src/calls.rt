@@ -22,10 +22,12 @@ pub struct Called {
 }
 
 impl Network {
-    /// Makes a call of host `number`, while ticks are played on all stations. A frame that a socket returns is copied
-    /// to the front of `into`. The bytes of `into` after the frame don't change; if no frame is returned, no byte
-    /// changes. The call has the effect of its answer. No driver or socket of another host changes; ticks may change
-    /// all stations.
+    /// Makes a call of host `number`, while ticks are played on all stations. The host must exist and be ready. The
+    /// observer must have room for the outcome of each tick, including each `Go`.
+    ///
+    /// A frame that a socket returns is copied to the front of `into`. The bytes of `into` after the frame don't
+    /// change; if no frame is returned, no byte changes. The call has the effect of its answer. No driver or socket of
+    /// another host changes; ticks may change all stations.
     #[inline(always)]
     pub fn call<O: Observer>(
         &mut self,
@@ -54,6 +56,7 @@ impl Network {
             observer,
         };
         let answer = self.hosts[number].call(&mut bus, call, into);
+        // Plays the ticks that remain after the last access.
         bus.finish();
         Called {
             answer,

@@ -33,8 +33,8 @@ fn first_waiting(host: &Host) -> Option<usize>
 
 impl Network {
     /// Drains a host: passes each frame that the host holds for its sockets to `sink`, and returns the number of steps.
-    /// No tick is played in the calls of the host. For a host with N receive buffers, `sink` must have room for at
-    /// least N + [`MOST_FRAMES`] (614) frames.
+    /// No tick is played in the calls of the host. `CanBeDrained` must hold for the host. For a host with N receive
+    /// buffers, `sink` must have room for at least N + [`MOST_FRAMES`] (614) frames.
     ///
     /// Each step is the first of these that applies. If a piece of a frame is in progress, the host's adapter writes
     /// back the descriptor of the piece. If the interrupt line is asserted, the host handles an interrupt. If a frame
@@ -59,7 +59,9 @@ impl Network {
     }
 
     /// Takes the next step of a drain. Returns `false` if no step applies: then the host holds no frame for its
-    /// sockets. A frame that a socket returns is first copied to `bytes`, and then passed to `sink`.
+    /// sockets. A frame that a socket returns is first copied to `bytes`, and then passed to `sink`. The sink must have
+    /// room for all frames that the host holds. To prove this (`room`), a caller may use that the adapter meets its
+    /// invariant before the call, which `adapter` also states.
     ///
     /// Only this host and its station change, and no end of a wire changes.
     fn step<S: FrameSink>(&mut self, number: usize, bytes: &mut [u8; 1518], sink: &mut S) -> bool
@@ -89,7 +91,7 @@ impl Network {
     }
 
     /// Takes the first kind of step: the adapter writes back the descriptor of the piece in progress. Returns `false`
-    /// if no piece is in progress.
+    /// if no piece was in progress before the call. No piece is in progress after it (`free`).
     fn finish(&mut self, number: usize) -> bool
         requires there { number < length self.old.hosts }
         requires stands { CanBeDrained (nth_host self.old number) (world_at self.old.stations number) }
@@ -103,8 +105,9 @@ impl Network {
         matches!(self.stations.step(number, StepKind::RxDone), Outcome::Done)
     }
 
-    /// Takes the second kind of step: the host handles an interrupt, without ticks. Only this host and its station
-    /// change, and no end of a wire changes.
+    /// Takes the second kind of step: the host handles an interrupt, without ticks. The interrupt line must be asserted
+    /// (`asserted`), and no piece may be in progress. Only this host and its station change, and no end of a wire
+    /// changes.
     fn handle(&mut self, number: usize, bytes: &mut [u8; 1518])
         requires there { number < length self.old.hosts }
         requires stands { CanBeDrained (nth_host self.old number) (world_at self.old.stations number) }
@@ -114,11 +117,13 @@ impl Network {
         ensures steps { StepsOn 1 number [] (connected_at self.old number) (connected_at self.new number) }
         ensures others { OnlyHostChanges number self.old self.new }
     {
+        // The call has no ticks and no observer, and its answer isn't needed.
         self.call(number, HostCall::Interrupt, &[], &mut Nobody, bytes);
     }
 
     /// Takes the third kind of step: a socket returns its oldest frame, without ticks, and the frame is passed to the
-    /// sink. The frame is first copied to `bytes`.
+    /// sink. The frame is first copied to `bytes`. A frame must be queued for this socket, no piece may be in progress,
+    /// and the sink must have room for the frame.
     fn give<S: FrameSink>(
         &mut self,
         number: usize,
@@ -138,6 +143,7 @@ impl Network {
         ensures others { OnlyHostChanges number self.old self.new }
     {
         let called = self.call(number, HostCall::Recv(socket), &[], &mut Nobody, bytes);
+        // The socket's queue wasn't empty, so both conditions are true.
         if let HostAnswer::Received(received) = called.answer {
             if let Ok(size) = received {
                 sink.take(socket, &Frame::from_slice(&bytes[..size]));
@@ -146,7 +152,8 @@ impl Network {
     }
 
     /// Takes the last kind of step: the adapter moves the next piece of the oldest frame in the receive packet buffer
-    /// to memory. Returns `false` if this buffer is empty: then the host holds no frame for its sockets.
+    /// to memory. Returns `false` if this buffer is empty: then the host holds no frame for its sockets. No other kind
+    /// of step may apply: no piece is in progress, the interrupt line isn't asserted, and no frame is queued.
     fn move_piece(&mut self, number: usize) -> bool
         requires there { number < length self.old.hosts }
         requires stands { CanBeDrained (nth_host self.old number) (world_at self.old.stations number) }
@@ -159,6 +166,7 @@ impl Network {
         ensures ends { result ≡ false → HoldsNothing (nth_host self.new number) (world_at self.new.stations number) }
         ensures hosts { self.new.hosts ≡ self.old.hosts }
     {
+        // The receive side is enabled and a slot is offered, so any other outcome is `Nothing`, for an empty buffer.
         matches!(
             self.stations.step(number, StepKind::RxData),
             Outcome::Part | Outcome::Moved

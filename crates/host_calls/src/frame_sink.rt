@@ -17,7 +17,8 @@ pub trait FrameSink {
     fn room(&self) -> usize
         ensures { result ≡ room_left self.now };
 
-    /// Appends a frame that this socket returned. The room decreases by at most one frame.
+    /// Appends a frame that this socket returned. The sink must have room for a frame. The room decreases by at most
+    /// one frame.
     fn take(&mut self, socket: usize, frame: &Frame)
         requires room { 0 < room_left self.old }
         ensures room { room_left self.old ≤ room_left self.new + 1 }

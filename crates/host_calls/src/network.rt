@@ -117,7 +117,7 @@ impl Network {
         self.hosts.len()
     }
 
-    /// Returns the host with this number, if it exists.
+    /// Returns the host with this number; `None` if there is no such host.
     pub fn host(&self, number: usize) -> Option<&Host>
         ensures none { IsNone result ↔ (length self.now.hosts ≤ number) }
         ensures some { IfSome result (λ host. host.now ≡ nth_host self.now number) }
@@ -132,8 +132,8 @@ impl Network {
         &self.stations
     }
 
-    /// Plays a tick outside a call. The observer is told the tick's outcome, with the number `accesses`. No driver or
-    /// socket changes.
+    /// Plays a tick outside a call. The observer is told the tick's outcome, with the number `accesses`, and must have
+    /// room for it. No driver or socket changes.
     #[inline(always)]
     pub fn play<O: Observer>(&mut self, tick: Tick, accesses: u64, observer: &mut O)
         requires room { 0 < O.room_left observer.old }
@@ -145,7 +145,8 @@ impl Network {
     }
 
     /// Plays all ticks except each `Go`, in order, outside a call. The observer is told each outcome, with the number
-    /// `accesses`. No driver or socket changes.
+    /// `accesses`. The observer must have room for one outcome for each tick, including each `Go`. No driver or socket
+    /// changes.
     pub fn play_rest<O: Observer>(&mut self, ticks: &[Tick], accesses: u64, observer: &mut O)
         requires room { length ticks.now ≤ O.room_left observer.old }
         ensures plays { PlaysTicks O.Observer (without_go is_go ticks.now) accesses

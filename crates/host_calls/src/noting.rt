@@ -14,7 +14,8 @@ use rx_engine::Fate;
 use stations::{Observer, Tick};
 use std::marker::Model;
 
-/// The number of accesses before the write of CTRL.RST. Frames that are put after more accesses aren't counted.
+/// The number of accesses before the write of CTRL.RST: the write of 0 to RCTL, and the read of MPC. Frames that are
+/// put after more accesses aren't counted.
 const BEFORE_RESET: u64 = 2;
 
 /// Notes of a reset: the number of frames that the host put before CTRL.RST was written, and a list of at most `most`
@@ -42,8 +43,8 @@ impl Model for Noted {
 }
 
 impl Noted {
-    /// Returns the notes before any tick. `holding` contains the frames held at the beginning. Later, stored frames are
-    /// appended to `holding`, up to `most` frames in all.
+    /// Returns the notes before any tick. `holding` contains the frames held at the beginning, which must be at most
+    /// `most` frames, and must have room for `most` frames. Stored frames are appended to `holding` later.
     pub(crate) fn new(host: usize, most: usize, holding: Vec<Frame>) -> Noted
         requires room { most ≤ vec_capacity holding }
         requires fits { length holding.items ≤ most }
@@ -63,8 +64,9 @@ impl Noted {
         }
     }
 
-    /// Notes a tick. Counts a frame that this host put after at most 2 accesses. Appends a frame that this host stored
-    /// before the first access, if the list has fewer than `most` frames.
+    /// Notes a tick, whose frame must have at most 1,518 bytes. Counts a frame that this host put after at most 2
+    /// accesses. Appends a frame that this host stored before the first access, if the list has fewer than `most`
+    /// frames.
     fn note(&mut self, tick: Tick, accesses: u64, outcome: Outcome<()>, frame: &[u8])
         requires fits { length frame.now ≤ longest_frame }
         ensures { NotesTicks self.old self.new (tick_told tick accesses (with_frame frame.now outcome) ∷ []) }

@@ -19,7 +19,8 @@ use stations::{LentBus, Observer, Tick};
 use std::alloc::{AllocError, Global};
 
 /// The number of accesses of a reset up to and including the write of RCTL that enables the receiver. The stores of
-/// receive descriptors aren't counted.
+/// receive descriptors, one for each slot, aren't counted. The 302 accesses are 128 writes of MTA, 128 of VFTA, 32 of
+/// receive addresses, 5 of ring registers, and one each of RCTL, MPC, CTRL, IMC, ICR, PBA, CTRL, RDT and RCTL.
 const OTHER_ACCESSES: u64 = 302;
 
 /// The frames that are lost in a reset of a host.
@@ -46,13 +47,15 @@ pub struct WasReset {
 fn drop_first(frames: &mut Vec<Frame>, count: u64)
     ensures { frames.new.items ≡ drop (min (length frames.old.items) count) frames.old.items }
 {
+    // `usize` has the size of `u64`, so the cast doesn't change `count`.
     let first = frames.len().min(count as usize);
     frames.drain(..first);
 }
 
 impl Network {
     /// Returns the frames that are lost if a reset of host `number` writes CTRL.RST in this state. The list of held
-    /// frames also has room for the frames that may be stored before the receiver is disabled.
+    /// frames also has room for the frames that may be stored before the receiver is disabled. The host must exist and
+    /// be ready, and its adapter must meet its invariant.
     ///
     /// # Errors
     ///
@@ -66,6 +69,7 @@ impl Network {
     {
         let host = &self.hosts[number];
         let layout = host.layout();
+        // At most one frame is held in each slot of the receive ring, and `MOST_FRAMES` in the receive packet buffer.
         let most = usize::from(layout.rx()) + usize::from(MOST_FRAMES);
         let mut sending = Vec::new(alloc);
         sending.reserve(usize::from(layout.tx()))?;
@@ -78,9 +82,9 @@ impl Network {
         Ok(GivenUp { sending, holding })
     }
 
-    /// Resets the adapter of host `number`, while ticks are played on all stations. `found` must be the result of
-    /// [`before_reset`](Network::before_reset) in this state. Returns the frames that were lost, and numbers of
-    /// accesses.
+    /// Resets the adapter of host `number`, while ticks are played on all stations. Returns the frames that were lost,
+    /// and numbers of accesses. `found` must be the result of [`before_reset`](Network::before_reset) in this state.
+    /// The observer must have room for the outcome of each tick, including each `Go`.
     ///
     /// The call allocates no memory. No driver or socket of another host changes; ticks may change all stations.
     pub fn reset<O: Observer>(
@@ -119,8 +123,8 @@ impl Network {
         }
     }
 
-    /// Resets the adapter of host `number`, while ticks are played. Each tick is told to `observer` and noted in
-    /// `noted`. Returns the number of accesses.
+    /// Resets the adapter of host `number`, while ticks are played. Each outcome of a tick is told to `observer` and
+    /// noted in `noted`. Returns the number of accesses.
     fn reset_noting<O: Observer>(
         &mut self,
         number: usize,
@@ -140,8 +144,8 @@ impl Network {
         self.reset_over(number, ticks, &mut noting)
     }
 
-    /// Resets the adapter of host `number`, while ticks are played. Each tick is told to `noting`. Returns the number
-    /// of accesses.
+    /// Resets the adapter of host `number`, while ticks are played. Each outcome of a tick is told to `noting`. Returns
+    /// the number of accesses. `noting` still refers to the same observer and the same notes after the call (`keeps`).
     fn reset_over<O: Observer>(
         &mut self,
         number: usize,
@@ -165,6 +169,7 @@ impl Network {
             observer: noting,
         };
         self.hosts[number].reset(&mut bus);
+        // Plays the ticks that remain after the last access.
         bus.finish();
         bus.accesses
     }

@@ -15,10 +15,13 @@ pub record EventCall : Type 0 where
   -- the ticks that are passed to the call, including each `Go`
   pub ticks : List Tick
 
--- an event, by its kind: a call of a host, a reset of a host's adapter, or a tick outside a call
+-- an event, by its kind
 pub data EventKind : Type 0 where
+  -- a call of a host
   ByCall : (call : EventCall) → EventKind
+  -- a reset of the adapter of this host, and the ticks that are played during the reset
   ByReset : (host : ℕ) (ticks : List Tick) → EventKind
+  -- a tick outside a call
   Alone : (tick : Tick) → EventKind
 
 -- the kind of an event: a call of a host, a reset, or a tick outside a call

@@ -55,8 +55,9 @@ impl Plan {
     ///
     /// # Errors
     ///
-    /// Returns the first of [`Name`](PlanError::Name), [`Ends`](PlanError::Ends), [`Hosts`](PlanError::Hosts),
-    /// [`Address`](PlanError::Address) and [`Config`](PlanError::Config) that applies.
+    /// Returns the first of E40 [`Name`](PlanError::Name), E41 [`Ends`](PlanError::Ends), E42
+    /// [`Hosts`](PlanError::Hosts), E43 [`Address`](PlanError::Address) and E44 [`Config`](PlanError::Config) that
+    /// applies.
     pub fn check(&self) -> Result<(), PlanError>
         ensures { IsPlanAnswer self.now.hosts.items result }
     {
@@ -154,7 +155,8 @@ fn is_same_if_addressed(host: &HostPlan, other: &HostPlan) -> bool
     other.image.address() != host.image.address() || other.name == host.name
 }
 
-/// Returns whether a host's address is an individual address, and no host with another name has the same address.
+/// Returns whether a host's address is an individual address, and no host with another name has the same address. An
+/// individual address has the low bit of its first byte clear (IEEE 802.3, 3.2.3).
 fn has_address(hosts: &[HostPlan], host: &HostPlan) -> bool
     ensures { IsTrue result ↔ HasAddress hosts.now host.now }
 {
@@ -168,7 +170,8 @@ fn have_addresses(hosts: &[HostPlan]) -> bool
     hosts.iter().all(|host| has_address(hosts, host))
 }
 
-/// Returns whether each host's configuration is valid, and its link needs at least one PHY tick, or is never up.
+/// Returns whether each host's configuration is valid in a memory of `u64::MAX` bytes, and each host's link needs at
+/// least one PHY tick or is never up.
 fn have_configs(hosts: &[HostPlan]) -> bool
     ensures { IsTrue result ↔ HasConfigs hosts.now }
 {

@@ -10,6 +10,7 @@ IsSound nic = nic.owner.full ≡ nic.held
 -- If the handle holds an adapter, `Does` relates the adapter before and after, and the handle still holds the adapter. If not, `Refused`
 -- holds, and the handle doesn't change.
 pub record OnAdapter (Does : WatchedAdapter → WatchedAdapter → Type 0) (Refused : Type 0) (old new : Nic) : Type 0 where
+  -- the handle is sound afterwards, and holds an adapter if and only if it did before
   pub sound : IsSound new
   pub held : new.held ≡ old.held
   pub done : old.held ≡ true → Does old.owner.value new.owner.value

@@ -20,6 +20,7 @@ abbrev pub held_owns : Bool → Global → Ptr → the_row.Denot → Fml
 held_owns true alloc = box_owns (ghosts.dealloc_token alloc) the_row
 held_owns false alloc = λ p x. feq (List Val) (ptr_val p ∷ []) (ptr_val null_ptr ∷ [])
 
+-- the encoding of adapters that the ghost field `value` of an owner uses
 abbrev pub value_coded : Coded the_row.Denot
 value_coded = the_row.coded
 

@@ -106,6 +106,7 @@ fn follow(watched: &mut WatchedAdapter, is_made: bool, most: u16)
     ensures { HeardByEvents (Follows (is_made && nat_lt 0 most)) watched.old watched.new }
 {
     if is_made && most > 0 {
+        // This is still the same maximum: accesses and arrivals don't change it.
         let most = u32::from(watched.player.pace);
         watched.player.settle(most, &mut watched.events);
     }
@@ -125,7 +126,7 @@ fn is_plain(watched: &WatchedAdapter) -> bool
     is_quiet && watched.agenda.is_none() && player.pace == 0 && !watched.events.on
 }
 
-/// Reads the register at an offset in bytes.
+/// Reads the register at an offset in bytes, after the steps before the access. Then plays the cycles after it.
 #[inline(always)]
 pub(crate) fn read(watched: &mut WatchedAdapter, offset: u32) -> u32
     ensures { AccessAnswered (Reads offset result) watched.old watched.new }
@@ -136,7 +137,7 @@ pub(crate) fn read(watched: &mut WatchedAdapter, offset: u32) -> u32
     meet_and_read(watched, offset)
 }
 
-/// Writes the register at an offset in bytes.
+/// Writes the register at an offset in bytes, after the steps before the access. Then plays the cycles after it.
 #[inline(always)]
 pub(crate) fn write(watched: &mut WatchedAdapter, offset: u32, value: u32)
     ensures { AccessAnswered (Writes offset value) watched.old watched.new }
@@ -148,8 +149,8 @@ pub(crate) fn write(watched: &mut WatchedAdapter, offset: u32, value: u32)
     meet_and_write(watched, offset, value);
 }
 
-/// Loads the bytes from an address on into `into`. If some of them are outside memory, returns `false` and changes
-/// nothing.
+/// Loads the bytes from an address on into `into`, after the steps before the access. Then plays the cycles after it,
+/// and returns `true`. If some of the bytes are outside memory, returns `false` and changes nothing.
 #[inline(always)]
 pub(crate) fn load(watched: &mut WatchedAdapter, address: u64, into: &mut [u8]) -> bool
     ensures { LoadAnswered address into.old into.new result watched.old watched.new }
@@ -160,7 +161,8 @@ pub(crate) fn load(watched: &mut WatchedAdapter, address: u64, into: &mut [u8]) 
     meet_and_load(watched, address, into)
 }
 
-/// Stores bytes from an address on. If some would be outside memory, returns `false` and changes nothing.
+/// Stores bytes from an address on, after the steps before the access. Then plays the cycles after it, and returns
+/// `true`. If some bytes would be outside memory, returns `false` and changes nothing.
 #[inline(always)]
 pub(crate) fn store(watched: &mut WatchedAdapter, address: u64, bytes: &[u8]) -> bool
     ensures { StoreAnswered address bytes.now result watched.old watched.new }
@@ -302,7 +304,7 @@ pub(crate) fn pace(watched: &mut WatchedAdapter, count: u32) -> bool
     true
 }
 
-/// Chooses a number below `limit`, or 0 if `limit` is 0.
+/// Returns a number below `limit`, or 0 if `limit` is 0. The schedule, if there is one, meets a request `choose`.
 ///
 /// If steps are drawn before accesses, the generator draws the number. Otherwise it is the number that the schedule's
 /// first due action chooses. If this number isn't below `limit`, or no action is due, the number is 0.

@@ -58,6 +58,7 @@ impl Observer for Events {
         fault: Option<EngineFault>,
     ) {
         let number = outcome_number(outcome);
+        // 0 is the number of `Nothing`, of which no event is kept.
         if number != 0 {
             self.keep(step_event(kind_number(kind), number, fault));
         }

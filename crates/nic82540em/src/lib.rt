@@ -2,7 +2,8 @@
 //!
 //! Most calls make a call of `played_adapter`'s [`PlayedAdapter`], on the adapter in a handle. The C program makes a
 //! handle of zeros. If a handle holds no adapter, only [`nic82540em_new`], and a copy into this handle, change the
-//! handle. Every other call changes nothing, and returns 0, `false` or `0xFFFFFFFF` if the call has a result.
+//! handle. Every other call changes nothing, and returns 0, `false` or `0xFFFFFFFF` if the call has a result. Each call
+//! requires and ensures that the owner in a handle is full if and only if the handle holds an adapter (`sound`).
 #![tactic(auto)]
 
 mod accesses;

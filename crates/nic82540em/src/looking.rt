@@ -22,7 +22,7 @@ pub extern "C" fn nic82540em_line(alloc: Global, nic: &mut Nic) -> bool
     on_adapter!(alloc, nic, false, |adapter| adapter.player.machine.line())
 }
 
-/// Stores in `into` the value that a read of the register at an offset would return. Returns `true`. This isn't an
+/// Stores in `into` the value that a read of the register at an offset would return now. Returns `true`. This isn't an
 /// access, and changes nothing in the adapter.
 #[unsafe(no_mangle)]
 pub extern "C" fn nic82540em_peek(alloc: Global, nic: &mut Nic, offset: u32, into: &mut u32) -> bool

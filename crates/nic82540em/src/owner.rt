@@ -32,7 +32,7 @@ impl Model for Owner {
 }
 
 impl Owner {
-    /// Removes and returns the adapter of a full owner. Afterwards the owner is empty.
+    /// Removes and returns the adapter of a full owner. Afterwards the owner is empty, with the allocator `alloc`.
     pub(crate) fn take(&mut self, alloc: Global) -> Box<WatchedAdapter>
         requires { self.old.full ≡ true }
         ensures value { result.value ≡ self.old.value }

@@ -12,8 +12,8 @@ use access_names::{Target, memory_target};
 use std::alloc::Global;
 use step_schedules::{Agenda, Before, Schedule, ScheduleError};
 
-/// The schedule, if there is one, meets an access of this target. Plays the default steps before the access, and then
-/// the actions that are due.
+/// Makes the schedule, if there is one, meet an access of this target. Plays the default steps before the access, and
+/// then the actions that are due.
 pub(crate) fn meet(watched: &mut WatchedAdapter, before: Before, target: Target)
     ensures { Meets before target watched.old watched.new }
 {
@@ -39,7 +39,7 @@ pub(crate) fn meet_memory(watched: &mut WatchedAdapter, before: Before, address:
     meet(watched, before, target);
 }
 
-/// The schedule, if there is one, meets a request `choose`. Returns the number in the schedule that is due, or 0.
+/// Makes the schedule, if there is one, meet a request `choose`. Returns the number in the schedule that is due, or 0.
 pub(crate) fn meet_choice(agenda: &mut Option<Agenda>) -> u32
     ensures number { result ≡ number_chosen agenda.old }
     ensures met { agenda.new ≡ after_choice agenda.old }
@@ -67,8 +67,8 @@ fn request_word(number: u32) -> Option<&'static str>
     }
 }
 
-/// The schedule, if there is one, meets the request with this number, which begins a round. Plays the actions that are
-/// due.
+/// Makes the schedule, if there is one, meet the request with this number, which begins a round. Plays the actions that
+/// are due.
 ///
 /// If no request has this number, returns `false` and changes nothing. Otherwise returns `true`.
 pub(crate) fn begin_round(watched: &mut WatchedAdapter, number: u32) -> bool
@@ -96,6 +96,7 @@ fn error_number(error: ScheduleError) -> u32
     let ScheduleError::Line { line, .. } = error else {
         return REFUSED;
     };
+    // The number 0 would mean that the schedule is played.
     if line > 0 && line < REFUSED as usize {
         line as u32
     } else {

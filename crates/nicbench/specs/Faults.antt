@@ -28,9 +28,11 @@ use Rattle.nicbench.specs.declared.fault.Fault.{Fault}
 abbrev pub HasStatusAndDetail : ℕ → Detail → Fault → Type 0
 HasStatusAndDetail status detail fault = (fault.code.status ≡ status) × (fault.detail ≡ detail)
 
+-- nothing is printed with the code
 abbrev pub no_detail : Detail
 no_detail = details.Nothing
 
+-- this path is printed with the code
 abbrev pub IsPath : List ℕ → Detail → Type 0
 IsPath path (details.Path text) = string_bytes text ≡ path
 IsPath path _ = ⊥
@@ -46,6 +48,7 @@ status_of_input input.Memory = 4
 status_of_input input.Read = 3
 status_of_input _ = 1
 
+-- the status after each other error, as the head of this file states
 abbrev pub status_of_plan : PlanError → ℕ
 status_of_plan plan.Memory = 4
 status_of_plan _ = 1
@@ -92,6 +95,7 @@ status_of_drive (drive.Init error) = 1
 status_of_drive (drive.Bus fault) = status_of_bus fault
 status_of_drive drive.Write = 3
 
+-- what is printed with the code of each error
 abbrev pub detail_of_schedule : ScheduleError → Detail
 detail_of_schedule schedules.Memory = no_detail
 detail_of_schedule error = details.Schedule error

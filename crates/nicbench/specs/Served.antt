@@ -10,6 +10,7 @@ use Rattle.registers.specs.declared.phy.Link.{Link}
 use Rattle.registers.specs.declared.phy.Link.TheVariants as links
 use Rattle.adapter_server.specs.declared.options.ServeOptions.{ServeOptions}
 
+-- the setting of the link that a job asks for
 abbrev pub link_of : ServeLink → Link
 link_of (asked.After ticks) = links.After ticks
 link_of asked.Never = links.Never
@@ -19,6 +20,7 @@ abbrev pub IsImageFor : ServeImage → List ℕ → Type 0
 IsImageFor (images.Address address) image = image ≡ image_with address
 IsImageFor (images.File path) image = ⊤
 
+-- the options of the server that a job asks for, with this image of the EEPROM
 abbrev pub options_of : ServeJob → (image : List ℕ) → ServeOptions
 options_of job image = record {
   memory = job.memory;

@@ -31,7 +31,7 @@ fn limits_of(job: &DriveJob<'_>) -> DriveLimits {
 }
 
 /// Sends frames to the adapter, and writes the received frames to `sink`. Writes requests to standard output, and reads
-/// their answers from standard input.
+/// their answers from standard input. The sink must have failed fewer than 2^64 - 1 times.
 fn drive_adapter<S: Sink>(
     rt: &HostRuntime,
     job: &DriveJob<'_>,
@@ -58,7 +58,7 @@ fn drive_adapter<S: Sink>(
 }
 
 /// Writes the counts of a drive of this number of frames to standard error, because the requests are on standard
-/// output. Fails if not all frames were passed to the driver, or fewer frames than expected were received.
+/// output. Fails (E69) if not all frames were passed to the driver, or fewer frames than expected were received.
 fn report_counts(
     rt: &HostRuntime,
     job: &DriveJob<'_>,
@@ -92,7 +92,7 @@ fn drive_frames(rt: &HostRuntime, job: &DriveJob<'_>, frames: &Frames) -> Result
     report_counts(rt, job, frames.len() as u64, &counts)
 }
 
-/// Runs `drive`: sends the frames of IN, writes OUT, and reports the counts. IN isn't `-`, because the adapter's
+/// Runs `drive`: sends the frames of IN, writes OUT, and reports the counts. Refuses `-` as IN, because the adapter's
 /// answers are read from standard input.
 pub(crate) fn run_drive(rt: &HostRuntime, job: &DriveJob<'_>) -> Result<(), Fault> {
     let trace = read_file_trace(rt, job.send)?;

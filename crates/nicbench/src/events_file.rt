@@ -52,7 +52,8 @@ fn refuse_written(
     }
 }
 
-/// Opens or creates the file at this path. Refuses a file that the run also reads, or writes in OUTDIR.
+/// Opens or creates the file at this path. Refuses a file that the run also reads, or writes in OUTDIR. A new file that
+/// is refused remains, and is empty.
 fn create_unused(
     rt: &HostRuntime,
     path: &str,
@@ -70,9 +71,9 @@ fn create_unused(
     Ok(sink)
 }
 
-/// Opens the file for the lines of events, if the job names a file. Refuses a file that the run also reads, or writes
-/// in OUTDIR. An existing file keeps its bytes; a new file is empty. Returns `None` if these lines go to standard
-/// output.
+/// Opens or creates the file for the lines of events, if the job names a file. Refuses a file that the run also reads,
+/// or writes in OUTDIR. An existing file keeps its bytes until the first new byte is written. Returns `None` if the job
+/// asks for no such lines, or if they go to standard output.
 pub(crate) fn create_events_sink(
     rt: &HostRuntime,
     job: &RunJob<'_>,

@@ -140,7 +140,7 @@ impl Fault {
     }
 }
 
-/// Returns the fault of a text that isn't a schedule for the job's adapter.
+/// Returns the fault of a text that isn't a schedule (E70), or of memory that was refused for the schedule (E57).
 fn schedule_fault(error: ScheduleError) -> Fault
     ensures { spec.HasStatusAndDetail (spec.status_of_schedule error) (spec.detail_of_schedule error) result }
 {

@@ -67,7 +67,8 @@ fn of_files(outcome: Result<(), FileError>) -> Result<(), Fault> {
     Ok(outcome?)
 }
 
-/// Does this job, which these words ask for, and reports its fault, if any. Returns the exit status.
+/// Does this job, which these words ask for, and reports its fault, if any. Returns the exit status. The values of the
+/// job must be within their bounds, as [`line`] ensures.
 fn obey(rt: &HostRuntime, words: &[String], job: &Job<'_>) -> ExitCode
     requires { HasBounds job.now }
 {
@@ -84,6 +85,7 @@ fn obey(rt: &HostRuntime, words: &[String], job: &Job<'_>) -> ExitCode
     }
 }
 
+/// Reads the words that the program was called with, and does the job that they ask for. Returns the exit status.
 fn main(rt: HostRuntime) -> ExitCode {
     let words = match words(&rt) {
         Ok(words) => words,

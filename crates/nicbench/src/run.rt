@@ -90,6 +90,9 @@ fn create_wire_sinks(
 
 /// Plays a scenario, and writes the traces to these sinks. If the scenario feeds many frames and standard error is a
 /// terminal, first reports that the run begins.
+///
+/// There must be one trace for each trace that the scenario feeds, one sink for each socket, and at most one wire sink
+/// for each wire. Each sink must have failed fewer than 2^64 - 1 times.
 fn play_to_sinks<W: Sink>(
     rt: &HostRuntime,
     job: &RunJob<'_>,
@@ -122,7 +125,8 @@ fn play_to_sinks<W: Sink>(
 }
 
 /// Opens the files in OUTDIR, plays a scenario, and writes the files. The files of sockets are written before those of
-/// wires, which are written only if the job asks for them.
+/// wires, which are written only if the job asks for them. There must be one trace for each trace that the scenario
+/// feeds.
 fn play(
     rt: &HostRuntime,
     job: &RunJob<'_>,
@@ -144,8 +148,8 @@ fn play(
     )
 }
 
-/// Warns on standard error, once, if calls outside `auto` lines were refused. These refusals don't change the exit
-/// status.
+/// Warns on standard error if calls outside `auto` lines were refused. Neither these refusals nor a failed write of the
+/// warning change the exit status.
 fn warn(rt: &HostRuntime, summary: &Summary) {
     let Refusals {
         sends,
@@ -170,7 +174,8 @@ fn print_to_standard_output(rt: &HostRuntime, summary: &Summary) -> Result<(), F
     Ok(())
 }
 
-/// Writes the lines of events to their file, if the job asks for them.
+/// Writes the lines of events to their file, if the job asks for them. The file must have failed fewer than 2^64 - 1
+/// times.
 fn write_events<W: Sink>(summary: &Summary, file: &mut Option<W>) -> Result<(), WriteError>
     requires { IfSome file.old (λ sink. W.failures sink < u64.MAX) }
 {
@@ -180,8 +185,8 @@ fn write_events<W: Sink>(summary: &Summary, file: &mut Option<W>) -> Result<(), 
     }
 }
 
-/// Writes the lines of events to a file, if the job asks for them, the lines of hosts to standard output, and a
-/// warning, if any, to standard error.
+/// Writes the lines of events to their file, if the job asks for them. Then writes the lines of hosts to standard
+/// output, and a warning, if any, to standard error. The precondition is that of [`write_events`].
 fn print_with_file<W: Sink>(
     rt: &HostRuntime,
     summary: &Summary,
@@ -196,7 +201,8 @@ fn print_with_file<W: Sink>(
 }
 
 /// Writes the lines of events to standard output or to this file, if the job asks for them. Writes the lines of hosts
-/// to standard output, or to standard error if the lines of events are there.
+/// to standard error if the lines of events are on standard output, and to standard output otherwise. The precondition
+/// is that of [`write_events`].
 fn print<W: Sink>(
     rt: &HostRuntime,
     job: &RunJob<'_>,
@@ -213,7 +219,7 @@ fn print<W: Sink>(
 }
 
 /// Opens the file for the lines of events, if the job names one, plays a scenario with these traces, and prints the
-/// lines of events and of hosts.
+/// lines of events and of hosts. There must be one trace for each trace that the scenario feeds.
 fn play_scenario(
     rt: &HostRuntime,
     job: &RunJob<'_>,

@@ -38,7 +38,8 @@ fn image_in(bytes: &[u8]) -> Option<Image> {
     Some(Image::from_words(words))
 }
 
-/// Returns the image of the EEPROM that the job asks for. Fails if the file can't be read, or doesn't have 128 bytes.
+/// Returns the image of the EEPROM that the job asks for. Fails if the file can't be read, or doesn't have 128 bytes
+/// (E58).
 fn image_of(rt: &HostRuntime, image: ServeImage<'_>) -> Result<Image, Fault>
     ensures { IfOk result (IsImageFor image.entry) }
 {
@@ -46,6 +47,7 @@ fn image_of(rt: &HostRuntime, image: ServeImage<'_>) -> Result<Image, Fault>
         ServeImage::Address(address) => return Ok(Image::with_address(address)),
         ServeImage::File(path) => path,
     };
+    // One byte more shows that the file is too long.
     let bytes = read_front(rt, path, IMAGE_BYTES as u64 + 1)?;
     match image_in(bytes.as_slice()) {
         Some(image) => Ok(image),
@@ -53,7 +55,7 @@ fn image_of(rt: &HostRuntime, image: ServeImage<'_>) -> Result<Image, Fault>
     }
 }
 
-/// Returns the options of the server, from the job.
+/// Returns the options of the server, from the job and the image of the EEPROM.
 fn options_of(job: &ServeJob<'_>, image: Image) -> ServeOptions
     ensures { result ≡ options_of job.now image }
 {
@@ -88,7 +90,7 @@ fn serve_input(
     }
 }
 
-/// Reports the deviations that weren't met, on standard error. Fails if there is one.
+/// Reports the deviations that weren't met, on standard error. Fails (E71) if there is such a deviation.
 fn report_unmet(rt: &HostRuntime, player: &Player) -> Result<(), Fault> {
     let unmet = player.agenda.unmet(rt.alloc())?;
     if unmet.is_empty() {
@@ -114,8 +116,8 @@ fn finish(
     report_unmet(rt, player)
 }
 
-/// Serves with this player. The file for the recorded schedule is opened first. At the end, stores the schedule that
-/// was recorded if there is a file for it, and reports the deviations that weren't met.
+/// Serves with this player. The file for the recorded schedule is opened first. After the last request, stores the
+/// schedule that was recorded if there is a file for it, and reports the deviations that weren't met.
 fn serve_with(
     rt: &HostRuntime,
     words: &[String],
@@ -130,8 +132,8 @@ fn serve_with(
     }
 }
 
-/// Runs `serve`. `words` are the words of the program, from which the job was read. At the end, a recorded schedule is
-/// stored, and deviations that weren't met are reported.
+/// Runs `serve`. `words` are the words of the program, from which the job was read. After the last request, stores a
+/// recorded schedule, and reports the deviations that weren't met.
 pub(crate) fn run_serve(
     rt: &HostRuntime,
     words: &[String],

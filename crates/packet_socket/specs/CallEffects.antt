@@ -22,6 +22,7 @@ pub data Request : Type 0 where
   Joining : (group : List ℕ) → Request
   Leaving : (group : List ℕ) → Request
 
+-- the call as plain data: the bytes of a frame to send instead of a slice
 abbrev pub call_request : HostCall → Request
 call_request (Send frame) = Sending frame.now
 call_request (Recv socket) = Receiving socket
@@ -42,7 +43,8 @@ abbrev pub IsLegalAnswer : HostAnswer ℕ → Type 0
 IsLegalAnswer (Received (Ok size)) = IsFrameSize size
 IsLegalAnswer _ = ⊤
 
--- The caller's bytes before and after a call. The bytes after a returned frame don't change. If no frame is returned, no byte changes.
+-- The caller's bytes are `before` before the call, and `after` after it. The bytes after a returned frame don't change. If no frame is
+-- returned, no byte changes.
 abbrev pub KeepsRest : HostAnswer ℕ → (before after : List ℕ) → Type 0
 KeepsRest (Received (Ok size)) before after = drop size after ≡ drop size before
 KeepsRest _ before after = after ≡ before

@@ -134,16 +134,23 @@ PassesStages bus (Then made Holds later) old new past =
 -- host accepted the frames `accepted` for sending.
 pub record OverBus {B : Type 0} (bus : Ghosts B) (up : Bool) (given : List Given) (accepted : List (List ℕ)) (old new : HostMoment B)
     (act : HostAct) : Type 0 where
+  -- what happened in the call
   pub past : Past
+  -- the stages of the act follow one another
   pub stages : PassesStages bus act.stages old.bus new.bus past
+  -- each access may be one of a call of this kind
   pub own : All (IsAccessOf act.kind old.host.driver.layout) (accesses_in act.stages)
+  -- only the last access may write a register
   pub last_writes : OnlyLastWrites (accesses_in act.stages)
   -- What changed, with the account of frames. The host is ready at the end.
   pub changed :
       HostInterval (changed_by act.kind up) (in_world old.host (bus.world old.bus)) (in_world new.host (bus.world new.bus))
       (host_did act.taken given accepted) past
+  -- what the driver's writes determine
   pub follows : FollowsWrites (bus.world old.bus) (bus.world new.bus) past
+  -- if no work was forgotten before the call, no work is forgotten after it
   pub work : HasNoForgottenWork old.host.driver (bus.world old.bus) → HasNoForgottenWork new.host.driver (bus.world new.bus)
+  -- if the receive ring was refilled before the call, it is refilled after it
   pub refilled : IsRefilled old.host.driver → IsRefilled new.host.driver
   -- If no slot was staged before the call, no slot is staged after it.
   pub offered : old.host.driver.staged ≡ [] → new.host.driver.staged ≡ []

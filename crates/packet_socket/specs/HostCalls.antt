@@ -164,9 +164,12 @@ HostGoesTo up = HostInterval (GoesTo up)
 
 -- The bus and the host at one point of a run.
 pub record HostMoment (B : Type 0) : Type 0 where
+  -- the bus
   pub bus : B
+  -- the host
   pub host : HostState
 
+-- the moment with this bus and this host
 abbrev pub host_at : {B : Type 0} → B → HostState → HostMoment B
 host_at bus host = record { bus = bus; host = host }
 
@@ -176,7 +179,9 @@ driver_at bus now = record { bus = now.bus; driver = driver_of now.host (bus.wor
 
 -- The bus obeys the law, and the host is ready, with its transmit side set up or off.
 pub record IsReadyHost {B : Type 0} (bus : Ghosts B) (up : Bool) (now : HostMoment B) : Type 0 where
+  -- the bus obeys the law
   pub honest : bus.honest now.bus
+  -- the host is ready
   pub ready : HostReadyWith up now.host (bus.world now.bus)
 
 -- Receiving
@@ -202,17 +207,21 @@ receive_accesses d d' parts offered =
     ++ (stores_from d.layout (next_receive d) offered ++ tail_write (next_receive d') (d.staged ++ offered))
 
 -- The contract of `recv` over any bus, if `recv` returns Ok. The oldest entry of a queue is removed, the entry's buffers return to the
--- driver, and slots are offered. The caller's bytes are `into` before the call and `into'` after it; the bytes after the entry's length
--- don't change.
+-- driver, and slots are offered. The caller's bytes are `into` before the call and `into'` after it.
 pub record Returns (h h' : HostState) (socket : ℕ) (into into' : List ℕ) (size : ℕ) : Type 0 where
+  -- the oldest entry of the queue
   pub received : Received
+  -- this entry is removed from the queue, and `size` is its length
   pub leaves : LeavesQueue h h' socket size received
   -- in the driver only the owners of buffers change, and no slot is staged
   pub others : h' ≡ record h { driver = with_owners h.driver h'.driver.buffers [] h'.driver.pool []; queues = h'.queues }
   -- Each buffer has the same number of owners as before.
   pub owners : HaveSameNumbers (host_owners h) (host_owners h')
+  -- the receive ring is refilled
   pub refilled : IsRefilled h'.driver
+  -- the length is legal
   pub legal : IsFrameSize size
+  -- the caller's bytes after the entry's length don't change
   pub rest : drop size into' ≡ drop size into
 
 -- Handling an interrupt
@@ -249,10 +258,14 @@ pub record SortsFrames (h h' : HostState) (shown : List Received) : Type 0 where
 -- The contract of `interrupt` over any bus, if it returns `Handled`: runs left the driver's ring, n of them whole. The frames of the whole
 -- runs were queued or counted (`SortsFrames`).
 pub record HostServes (h h' : HostState) (n : ℕ) : Type 0 where
+  -- the runs that left the ring
   pub runs : List RunOfSlots
+  -- how the driver's state changed
   pub ring : ServesRing h.driver h'.driver runs n
+  -- the frames of the whole runs
   pub shown : List Received
   pub frames : AreFramesOf runs shown
+  -- these frames were queued or counted
   pub sorted : SortsFrames h h' shown
   -- Each buffer has the same number of owners as before.
   pub owners : HaveSameNumbers (host_owners h) (host_owners h')

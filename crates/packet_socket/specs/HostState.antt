@@ -18,6 +18,7 @@ all_of (queue ∷ later) = queue ++ all_of later
 
 -- The sockets of a host, their queues, and the count of frames without a socket.
 pub record SocketsState : Type 0 where
+  -- the table of sockets
   pub kinds : List SocketKind
   -- the frames queued for each socket, the oldest first
   pub queues : List (List Received)
@@ -47,5 +48,7 @@ new_host driver kinds = record { driver = driver; kinds = kinds; queues = replic
 
 -- The state of a host that `new` returns, over any bus.
 pub record IsNewHost (config : Config) (kinds : List SocketKind) (host : HostState) : Type 0 where
+  -- the queues are empty, and no frame is counted
   pub new : host ≡ new_host host.driver kinds
+  -- the driver is as `Driver::init` returns it
   pub fresh : IsFresh config host.driver

@@ -132,7 +132,7 @@ impl Host {
     /// E20 [`TooShort`](SendError::TooShort) if the frame has fewer than 14 bytes, E21 [`TooLong`](SendError::TooLong)
     /// if the frame has more than 1,518 bytes; both without an access. E22 [`RingFull`](SendError::RingFull) only if
     /// all slots of the transmit ring except one are still outstanding after the call has freed slots whose descriptors
-    /// have DD.
+    /// have DD. After E20 and E21, the host is unchanged.
     pub fn send<B: Bus>(&mut self, bus: &mut B, frame: &[u8]) -> Result<(), SendError>
         requires memory { size_of self.old.driver.layout ≤ B.extent bus.old }
         ensures keeps { Keeps B.Bus bus.old bus.new }
@@ -145,7 +145,7 @@ impl Host {
         ensures nothing { HasWrongLength result → (bus.new ≡ bus.old) × (self.new ≡ self.old) }
         ensures full { result ≡ Err SendError.RingFull → self.new.driver.sending + 1 ≡ self.new.driver.layout.tx }
 
-        // Over a bus that obeys the law.
+        // Over a bus that obeys the law. The call returns no frames (the empty list).
         ensures sends { CallsUp B.Bus [] (accepted_by result frame.now) (host_at bus.old self.old)
             (host_at bus.new self.new) (SendEffect frame.now result) }
     {

@@ -25,15 +25,15 @@ pub enum RecvError {
 }
 
 impl Host {
-    /// Removes the oldest entry of a socket's queue, and returns its length, from 60 to 1,518 bytes. The entry's
-    /// buffers return to the driver, which refills its receive ring. The bytes of `into` after this length don't
-    /// change. If the bus obeys the law and the host is ready, the bytes of `into` up to this length are the entry's
-    /// frame. The other statements hold over any bus. `bus` must have at least `layout().size()` bytes.
+    /// Removes the oldest entry of a socket's queue, copies the entry's frame to the front of `into`, and returns the
+    /// frame's length, from 60 to 1,518 bytes. The bytes of `into` after this length don't change. The entry's buffers
+    /// return to the driver, which refills its receive ring. The copied bytes are the frame if the bus obeys the law
+    /// and the host is ready. The other statements hold over any bus. `bus` must have at least `layout().size()` bytes.
     ///
     /// # Errors
     ///
     /// E31 [`NoSocket`](RecvError::NoSocket) if there is no such socket, E30 [`Empty`](RecvError::Empty) if its queue
-    /// is empty; both without an access.
+    /// is empty; both without an access. After an error, the host and `into` are unchanged.
     pub fn recv<B: Bus>(
         &mut self,
         bus: &mut B,
@@ -50,7 +50,7 @@ impl Host {
         ensures err { IfErr result (λ error. (bus.new ≡ bus.old) × (self.new ≡ self.old) × (into.new ≡ into.old)) }
         ensures ok { IfOk result (Returns self.old self.new socket into.old into.new) }
 
-        // Over a bus that obeys the law.
+        // Over a bus that obeys the law. The call accepts no frames (the empty list).
         ensures receives { CallsOver B.Bus (given_by socket (frame_answer into.new result)) []
             (host_at bus.old self.old) (host_at bus.new self.new) (RecvEffect socket (frame_answer into.new result)) }
     {

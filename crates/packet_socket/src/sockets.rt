@@ -81,14 +81,15 @@ impl Sockets {
         }
     }
 
-    /// Returns the number of received frames without a socket.
+    /// Returns the number of received frames without a socket. The number saturates at the greatest `u64`.
     pub(crate) fn unclaimed(&self) -> u64
         ensures { result ≡ self.now.unclaimed }
     {
         self.unclaimed
     }
 
-    /// Removes and returns the oldest frame of a socket's queue. Returns `None` if the queue is empty.
+    /// Removes and returns the oldest frame of a socket's queue. Returns `None` if the queue is empty. There must be
+    /// such a socket.
     #[tactic(auto, using(crate::proofs::InsideQueues::others_stay))]
     pub(crate) fn next(&mut self, socket: usize) -> Option<Received>
         requires there { socket < length self.old.kinds }
@@ -115,7 +116,7 @@ impl Receiver for Sockets {
             self.unclaimed = self.unclaimed.saturating_add(1);
             return received.parts;
         };
-        // In a host, the queue has room, so it drops no frame.
+        // In a host, the queue has room, so the result is always Ok, and no frame is dropped.
         let _ = self.queues[socket].push_back(received);
         Parts::new()
     }

@@ -13,7 +13,7 @@ with_address None r = record r { ral = slice_set r.ral 0 0; rah = slice_set r.ra
 with_address (Some address) r = record r
     { ral = slice_set r.ral 0 (low_word address); rah = slice_set r.rah 0 (high_word address + 2 ^ 31) }
 
--- the table with a change of the word that contains a number's bit: only this bit of the word is 1
+-- the table, in which the word that contains a number's bit is replaced: only this bit of the new word is 1
 abbrev pub with_bit : List ℕ → ℕ → List ℕ
 with_bit table number = slice_set table (number / 32) (2 ^ (number % 32))
 

@@ -16,11 +16,11 @@ use Rattle.adapter.specs.State.{AdapterState}
 abbrev pub slots : ℕ
 slots = 8
 
--- the address of a slot's receive buffer: the first one follows both rings and the transmit buffers
+-- the address of a slot's buffer of 2,048 bytes; the buffer of slot 0 follows both rings and the transmit buffers
 abbrev pub lane_buffer : ℕ → ℕ
 lane_buffer slot = 18432 + 2048 * slot
 
--- the descriptor that offers the buffer at address `buffer`; its status is 0
+-- a descriptor as a driver stores it before it offers the slot: it points to the buffer at address `buffer`, and its status is 0
 abbrev pub offered_descriptor : ℕ → RxDesc
 offered_descriptor buffer = record { address = buffer; length = 0; checksum = 0; status = status_of 0; errors = 0; special = 0 }
 
@@ -56,7 +56,7 @@ pub record IsLane (lane : LaneState) : Type 0 where
   pub size : length lane.memory ≡ 34816
   pub buffers : NameBuffers lane.memory
 
--- The adapter's head is at the driver's slot.
+-- The lane waits for a frame: the adapter's head is at the driver's slot, so the next stored frame is for this slot.
 abbrev pub IsWaiting : LaneState → Type 0
 IsWaiting lane = lane.adapter.receive_ring.head ≡ lane.slot
 

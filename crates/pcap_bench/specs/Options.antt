@@ -5,7 +5,7 @@ use Rattle.rx_engine.specs.Passing.{ReceiveFilter, Passes}
 use Rattle.pcap_bench.specs.declared.filter.PassFilter.{PassFilter}
 use Rattle.rx_engine.specs.declared.filter.TheConstants.{VLAN_TYPE}
 
--- neither an address nor a group is given
+-- neither an address nor a group is given, so the filter accepts every address
 abbrev pub IsOpen : PassFilter → Type 0
 IsOpen options = (options.address ≡ None) × (options.group ≡ None)
 

@@ -12,6 +12,7 @@ use Rattle.pcap_bench.specs.Printing.{cut_word}
 abbrev pub pair : ℕ → List ℕ
 pair byte = encode_lower (byte ∷ [])
 
+-- a colon, and the two digits of a byte
 abbrev pub colon_pair : ℕ → List ℕ
 colon_pair byte = codes ":" ++ pair byte
 

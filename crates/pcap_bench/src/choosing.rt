@@ -15,8 +15,9 @@ use rx_engine::{AddressWords, TableBit, VLAN_TYPE, hash_of};
 /// The offset of RAH(0), which follows RAL(0).
 const RAH: u32 = RAL + REGISTER_BYTES;
 
-/// Writes RAL(0) and RAH(0): the address with AV, or 0 if no address is given, which clears the address that a reset
-/// loads from the EEPROM. (After a reset, MTA and VFTA have nothing to clear.)
+/// Writes RAL(0) and RAH(0): the address with AV, or 0 if no address is given. The 0 clears the address that a reset
+/// loads from the EEPROM. (After a reset, MTA and VFTA are 0.) The clause `address` states that a given address has 6
+/// bytes, each below 256.
 fn write_address(adapter: &mut Adapter, address: &Option<[u8; 6]>)
     ensures written { adapter.new ≡ record adapter.old { filter = with_address address.now adapter.old.filter } }
     ensures address { IfSome address.now IsAddress }
@@ -29,7 +30,8 @@ fn write_address(adapter: &mut Adapter, address: &Option<[u8; 6]>)
     adapter.write(RAH, words.high);
 }
 
-/// Writes the word of a table that contains the bit of a number. Only this bit of the word is 1.
+/// Writes the word of a table that contains the bit of a number. Only this bit of the word is 1. `table` is the offset
+/// of MTA or VFTA, and the number must be at most 4095.
 fn write_number(adapter: &mut Adapter, table: u32, number: u16)
     requires table { table ≤ VFTA }
     requires number { number ≤ 4095 }
@@ -48,7 +50,7 @@ fn write_group(adapter: &mut Adapter, group: &Option<[u8; 6]>)
     }
 }
 
-/// Writes the word of VFTA that contains the bit of the VLAN, if a VLAN is given.
+/// Writes the word of VFTA that contains the bit of the VLAN, if a VLAN is given. The VLAN must be at most 4095.
 fn write_vlan(adapter: &mut Adapter, vlan: Option<u16>)
     requires { IfSome vlan (λ number. number ≤ 4095) }
     ensures { adapter.new ≡ record adapter.old { filter = with_vlan_bit vlan adapter.old.filter } }
@@ -73,7 +75,7 @@ pub fn mode_of(options: &PassFilter) -> Rctl
     mode
 }
 
-/// Writes the registers of the receive filter for these options, except RCTL.
+/// Writes the registers of the receive filter for these options, except RCTL. A given VLAN must be at most 4095.
 pub fn write_filter(adapter: &mut Adapter, options: &PassFilter)
     requires { HasVlanNumber options.now }
     ensures written { adapter.new ≡ record adapter.old { filter = with_tables options.now adapter.old.filter } }

@@ -24,7 +24,7 @@ use registers::{Image, Link};
 use std::alloc::{AllocError, Global};
 use std::marker::Model;
 
-/// The address in the EEPROM. The exact filter has this address until another address is written.
+/// The address in the EEPROM. It is the receive address until `write_filter` writes RAL(0) and RAH(0).
 const OWN_ADDRESS: [u8; 6] = [0x02, 0, 0, 0, 0, 0x01];
 
 /// The mask of an address's low 32 bits.
@@ -51,7 +51,8 @@ impl Model for ReceiveLane {
     ghost invariant = { λ lane. IsLane (record { adapter = lane.adapter; memory = lane.memory; slot = lane.slot }) };
 }
 
-/// Writes the registers of the receive ring: the adapter owns all descriptors except the last one.
+/// Writes the registers of the receive ring: the adapter owns all descriptors except the last one. The layout's receive
+/// ring must have 8 descriptors; it is at address 0.
 fn write_ring(adapter: &mut Adapter, layout: &Layout)
     requires { layout.now.rx ≡ 8 }
     ensures { adapter.new ≡ record adapter.old { receive_ring = ring_at 0 0 } }
@@ -64,8 +65,9 @@ fn write_ring(adapter: &mut Adapter, layout: &Layout)
     adapter.write(RDT, u32::from(SLOTS - 1));
 }
 
-/// Plays the two steps that move the oldest frame of the packet buffer to memory, in one piece, and finish its
-/// descriptor.
+/// Plays the two steps of the oldest frame in the packet buffer: RxData moves the frame to memory in one piece, and
+/// RxDone writes back the descriptor. There must be such a frame and an offered descriptor. The frame must fit into the
+/// descriptor's buffer, which must be inside memory.
 fn finish_frame(adapter: &mut Adapter, memory: &mut HostMemory)
     requires frame { HasFrameAndDescriptor adapter.old }
     requires place { CanMovePiece memory.old adapter.old }
@@ -75,13 +77,15 @@ fn finish_frame(adapter: &mut Adapter, memory: &mut HostMemory)
         ≡ memory_after_done_step (memory_after_data_step Moved memory.old adapter.old)
         (after_data Moved adapter.old) }
 {
-    // The clauses require that both steps can be made, so their outcomes are known. They don't use the wire (`false`).
+    // The preconditions make both outcomes known, so they are dropped. Receive steps don't use the wire (`false`).
     let _ = adapter.step(StepKind::RxData, memory, false);
     let _ = adapter.step(StepKind::RxDone, memory, false);
 }
 
 impl ReceiveLane {
-    /// Returns a lane whose adapter receives the frames that these options accept.
+    /// Returns a lane whose adapter receives the frames that these options accept, and which waits for a frame
+    /// (`IsWaiting`). A given VLAN must be at most 4095. The adapter's link is never up; arrivals don't depend on the
+    /// link.
     ///
     /// # Errors
     ///
@@ -91,6 +95,7 @@ impl ReceiveLane {
         ensures filter { IfOk result (λ lane. SameSets (filter_of lane.adapter.filter) (filter_for options.now)) }
         ensures waiting { IfOk result IsWaiting }
     {
+        // This layout is allowed: rings of 8 descriptors, and 64 receive buffers. So `of` doesn't fail.
         let layout = Layout::of(SLOTS, SLOTS, BUFFERS).unwrap();
         let mut memory = HostMemory::new(alloc, layout.size())?;
         offer_all(&mut memory, &layout);
@@ -106,8 +111,9 @@ impl ReceiveLane {
         })
     }
 
-    /// Lets a frame of 14 to 1,518 bytes arrive, padded with zeros to at least 60 bytes. Returns whether the adapter
-    /// received the frame. If so, the descriptor at the driver's slot is finished; otherwise the lane doesn't change.
+    /// Lets a frame of 14 to 1,518 bytes arrive, padded with zeros to at least 60 bytes. The lane must wait for a frame
+    /// (`IsWaiting`). Returns whether the adapter received the frame. If so, the descriptor at the driver's slot is
+    /// finished; otherwise the lane doesn't change.
     pub fn receive(&mut self, frame: &[u8]) -> bool
         requires sendable { IsTrue (is_sendable frame.now) }
         requires waiting { IsWaiting self.old }
@@ -124,7 +130,8 @@ impl ReceiveLane {
         self.arrive(frame)
     }
 
-    /// Does what [`receive`](ReceiveLane::receive) does, for a frame of 60 to 1,518 bytes.
+    /// Does what [`receive`](ReceiveLane::receive) does, for a frame of 60 to 1,518 bytes. The fate is Stored or
+    /// Filtered, because the adapter receives, the frame is legal, and the packet buffer is empty.
     fn arrive(&mut self, frame: &[u8]) -> bool
         requires legal { IsLegal frame.now }
         requires waiting { IsWaiting self.old }
@@ -149,7 +156,7 @@ impl ReceiveLane {
         load_desc(&self.memory, self.slot)
     }
 
-    /// Returns the frame of the finished descriptor at the driver's slot, in place, in the host's memory.
+    /// Returns the frame at the driver's slot, as a slice of the host's memory. The slot's descriptor must be finished.
     pub fn received(&self) -> &[u8]
         requires { HasFrame self.now (slot_bytes self.now) }
         ensures { result.now ≡ slot_bytes self.now }
@@ -160,7 +167,9 @@ impl ReceiveLane {
             .unwrap()
     }
 
-    /// Offers the buffer at the driver's slot again, and moves the driver to the next slot.
+    /// Stores the descriptor at the driver's slot again, without DD and with the same buffer. Then writes this slot to
+    /// the tail, which offers the slot before it, and moves the driver to the next slot. Before the call, the
+    /// descriptor must be finished. After the call, the lane waits for a frame.
     pub fn offer(&mut self)
         requires { HasFrame self.old (slot_bytes self.old) }
         ensures next { self.new.slot ≡ (self.old.slot + 1) % 8 }

@@ -17,8 +17,9 @@ use descriptors::is_sendable;
 use pcap_trace::{RecordWriter, Sink, Trace, Unit, WriteError};
 use std::alloc::Global;
 
-/// Writes the frame of the finished descriptor at the driver's slot with this number as time. Then offers the slot's
-/// buffer again.
+/// Writes the frame at the driver's slot through the writer, with this number as time. Then moves the driver to the
+/// next slot ([`offer`](ReceiveLane::offer)). The slot's descriptor must be finished, with a frame of at most 1,518
+/// bytes. If the sink fails, a beginning of the bytes that waited in the writer was written.
 fn write_received<W: Sink>(
     lane: &mut ReceiveLane,
     writer: &mut RecordWriter,
@@ -43,8 +44,9 @@ fn write_received<W: Sink>(
     Ok(())
 }
 
-/// Sends the frames of 14 to 1,518 bytes, padded, to a lane, and writes the frames that its receive filter accepts.
-/// Returns the counts. Before the call, only the file header waits in the writer.
+/// Sends the frames of 14 to 1,518 bytes, padded, to a lane. Writes the frames that its receive filter accepts, flushes
+/// the writer, and returns the counts. Before the call, only the file header for `unit` must wait in the writer, and
+/// the lane must wait for a frame. If the sink fails, only a beginning of the trace was written.
 fn pass_frames<W: Sink>(
     lane: &mut ReceiveLane,
     writer: &mut RecordWriter,

@@ -15,7 +15,7 @@ const LONGEST_LINE: usize = 320;
 /// A line under construction.
 pub(crate) type Line = ArrayVec<u8, LONGEST_LINE>;
 
-/// Appends ` cut yes` or ` cut no`, and ends the line.
+/// Appends ` cut yes` or ` cut no`, and a line feed: at most 9 bytes, for which the line must have room.
 pub(crate) fn push_cut(line: &mut Line, cut: bool)
     requires room { length line.old.items + 9 ≤ 320 }
     ensures text { line.new.items ≡ line.old.items ++ cut_word cut }

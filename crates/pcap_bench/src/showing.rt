@@ -12,7 +12,7 @@ use text::push_field;
 /// The number of bytes of a frame's two addresses and its type (IEEE 802.3 clause 3.2).
 const HEADER: usize = 14;
 
-/// Appends a byte, as two hexadecimal digits.
+/// Appends a byte, as two hexadecimal digits, for which the line must have room.
 fn push_byte(line: &mut Line, byte: u8)
     requires room { length line.old.items + 2 ≤ 320 }
     ensures text { line.new.items ≡ line.old.items ++ pair byte }
@@ -23,7 +23,7 @@ fn push_byte(line: &mut Line, byte: u8)
     line.try_extend_from_slice(&digits).unwrap();
 }
 
-/// Appends a space and an address.
+/// Appends a space and an address of 6 bytes: 18 characters, for which the line must have room.
 fn push_address(line: &mut Line, address: &[u8])
     requires whole { length address.now ≡ 6 }
     requires room { length line.old.items + 18 ≤ 320 }
@@ -38,7 +38,8 @@ fn push_address(line: &mut Line, address: &[u8])
     }
 }
 
-/// Appends a frame's destination, source and type, or `short` if the frame has fewer than 14 bytes.
+/// Appends a frame's destination, source and type, or `short` if the frame has fewer than 14 bytes. Appends at most 41
+/// bytes, but the line must have room for 60 bytes, as for a call of `push_field`.
 fn push_header(line: &mut Line, frame: &[u8])
     requires room { length line.old.items + 60 ≤ 320 }
     ensures text { line.new.items ≡ line.old.items ++ header_text frame.now }
@@ -55,7 +56,7 @@ fn push_header(line: &mut Line, frame: &[u8])
     push_byte(line, frame[13]);
 }
 
-/// Writes the line of a frame.
+/// Writes the line of a frame: first its number, without a label, and then its length.
 fn write_frame<W: Sink>(sink: &mut W, number: u64, frame: &[u8]) -> Result<(), WriteError>
     requires { W.failures sink.old < u64.MAX }
     ensures ok { OnOk result (Appends (W.taken sink.old) (W.taken sink.new) (shown_frame number frame.now)) }
@@ -70,7 +71,8 @@ fn write_frame<W: Sink>(sink: &mut W, number: u64, frame: &[u8]) -> Result<(), W
     write_all(sink, line.as_slice())
 }
 
-/// Writes the last line: the numbers of frames and of skipped packets, and whether the trace is cut off.
+/// Writes the last line: the numbers of frames and of skipped packets, and whether the trace is cut off. `count` must
+/// be the number of frames.
 fn write_end<W: Sink>(sink: &mut W, trace: &Trace, count: u64) -> Result<(), WriteError>
     requires countable { W.failures sink.old < u64.MAX }
     requires counted { count ≡ length trace.now.frames }

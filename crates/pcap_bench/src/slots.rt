@@ -25,7 +25,7 @@ fn address_of(slot: u16) -> u64
     RX_DESC_BYTES as u64 * u64::from(slot)
 }
 
-/// Returns the descriptor of a slot.
+/// Returns the descriptor of a slot, which must be below 8. Memory must have 34,816 bytes.
 pub fn load_desc(memory: &HostMemory, slot: u16) -> RxDesc
     requires slot { slot < slots }
     requires size { length memory.now ≡ 34816 }
@@ -35,7 +35,8 @@ pub fn load_desc(memory: &HostMemory, slot: u16) -> RxDesc
     RxDesc::from_bytes(bytes.first_chunk().unwrap())
 }
 
-/// Writes a descriptor that points to the buffer at address `buffer`, without DD, into a slot.
+/// Stores a descriptor without DD, which points to the buffer at address `buffer`, in a slot. Writes no tail, so the
+/// call itself offers no slot. The slot must be below 8, and memory must have 34,816 bytes.
 pub fn offer(memory: &mut HostMemory, slot: u16, buffer: u64)
     requires slot { slot < slots }
     requires size { length memory.old ≡ 34816 }
@@ -52,7 +53,9 @@ pub fn offer(memory: &mut HostMemory, slot: u16, buffer: u64)
     memory.store(address_of(slot), &desc.to_bytes()).unwrap();
 }
 
-/// Offers the buffers of a layout. The descriptor of each slot points to the first of eight consecutive buffers.
+/// Stores the descriptor of each slot, which points to the slot's buffer: eight consecutive receive buffers of 256
+/// bytes. Writes no tail, so the call offers no slot. The layout must have rings of 8 slots and 64 receive buffers, and
+/// memory must have the 34,816 bytes that this layout needs.
 pub fn offer_all(memory: &mut HostMemory, layout: &Layout)
     requires layout { layout.now ≡ record { rx = 8; tx = 8; buffers = 64 } }
     requires size { length memory.old ≡ 34816 }

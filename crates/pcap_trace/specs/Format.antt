@@ -9,7 +9,7 @@ use Rattle.pcap_trace.specs.declared.header.Endianness.TheVariants.{Big, Little}
 use Rattle.pcap_trace.specs.declared.unit.Unit.{Unit}
 use Rattle.pcap_trace.specs.declared.unit.Unit.TheVariants.{Micros, Nanos}
 
--- A byte order: the number in the first n bytes of a list.
+-- A byte order, as a function: from n and a list, it makes the number in the first n bytes of the list.
 abbrev pub Order : Type 0
 Order = ℕ → List ℕ → ℕ
 
@@ -28,6 +28,7 @@ microseconds_magic = 0xA1B2_C3D4
 abbrev pub nanoseconds_magic : ℕ
 nanoseconds_magic = 0xA1B2_3C4D
 
+-- whether a word is one of the two magic numbers
 abbrev pub is_magic : ℕ → Bool
 is_magic n = (n == microseconds_magic) || (n == nanoseconds_magic)
 
@@ -42,15 +43,16 @@ pub record IsFileHeader (number : Order) (bytes : List ℕ) : Type 0 where
 
 -- ---- packets (pcap-savefile, "Packet Header")
 
--- a packet header, and the bytes that were captured
+-- a packet: its header, and the bytes that were captured
 pub record Packet : Type 0 where
   pub header : List ℕ
   pub captured : List ℕ
 
--- the captured length in a packet header, in bytes; the original length follows it
+-- the captured length in a packet header: the number of captured bytes of the packet
 abbrev pub captured_length : Order → List ℕ → ℕ
 captured_length number header = number 4 (drop 8 header)
 
+-- the original length in a packet header: the number of bytes of the packet on the wire
 abbrev pub original_length : Order → List ℕ → ℕ
 original_length number header = number 4 (drop 12 header)
 
@@ -58,11 +60,14 @@ original_length number header = number 4 (drop 12 header)
 abbrev pub most_captured : ℕ
 most_captured = 262144
 
+-- The packet is complete: its header has 16 bytes, and the number of its captured bytes is the captured length in the header, at most
+-- `most_captured`.
 pub record IsPacket (number : Order) (p : Packet) : Type 0 where
   pub header_length : length p.header ≡ 16
   pub captured_is : length p.captured ≡ captured_length number p.header
   pub short_enough : length p.captured ≤ most_captured
 
+-- the bytes of a packet in a file
 abbrev pub packet_bytes : Packet → List ℕ
 packet_bytes p = p.header ++ p.captured
 
@@ -109,6 +114,7 @@ pub record IsBody (number : Order) (bytes : List ℕ) (frames : List (List ℕ))
 
 -- ---- a trace
 
+-- the ending of a trace, by whether its last packet is cut off
 abbrev pub ending_of : Bool → Ending
 ending_of true = cut_off
 ending_of false = complete
@@ -131,6 +137,7 @@ pub record Timed : Type 0 where
   -- its bytes
   pub frame : List ℕ
 
+-- a frame without its time
 abbrev pub timed_frame : Timed → List ℕ
 timed_frame t = t.frame
 
@@ -167,6 +174,7 @@ packet_of unit t = packet_header unit t.time (length t.frame) ++ t.frame
 abbrev pub written : Unit → List Timed → List ℕ
 written unit ts = file_header unit ++ flat_map (packet_of unit) ts
 
+-- The frame has at most `most_captured` bytes, so a packet can contain it.
 abbrev pub IsShort : Timed → Type 0
 IsShort t = length t.frame ≤ most_captured
 

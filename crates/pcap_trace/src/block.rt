@@ -11,7 +11,8 @@ use std::marker::Model;
 /// The maximum number of bytes of one read.
 const CHUNK: usize = 65_536;
 
-/// The block's room in bytes: for one read, and for a packet with the greatest captured length and its header.
+/// The block's room in bytes: 65,536 for one read, 16 for a packet header, and 262,144 for the captured bytes of a
+/// packet.
 const ROOM: usize = 327_696;
 
 /// Bytes that were read from a source and not used yet. In contracts, the value is the list of these bytes.
@@ -83,7 +84,8 @@ impl Block {
         &self.bytes.as_slice()[self.start..self.end]
     }
 
-    /// Drops `count` bytes from the front. The block must have at least `count` bytes.
+    /// Drops `count` bytes from the front. The block must have at least `count` bytes. No block has more than 327,696
+    /// bytes (`room`).
     pub fn skip(&mut self, count: usize)
         requires { count ≤ length self.old }
         ensures rest { self.new ≡ drop count self.old }
@@ -94,7 +96,7 @@ impl Block {
 
     /// Moves the bytes to the front of the block's memory, and reads at most 65,536 bytes once from a source into the
     /// memory after these bytes. There must be room for at least one more byte. Returns the number of bytes read; 0
-    /// means that the source is at its end.
+    /// means that the source is at its end. Fails if the source fails.
     fn read_more<S: Source>(&mut self, source: &mut S) -> Result<usize, DeviceError>
         requires countable { S.failures source.old < u64.MAX }
         requires room { length self.old < ROOM }
@@ -139,8 +141,8 @@ impl Block {
         self.fill_slowly(source, want)
     }
 
-    /// Does what [`fill`](Block::fill) does. It is a separate function, called if bytes are missing, so that `fill` can
-    /// be inlined.
+    /// Does what [`fill`](Block::fill) does. It is a separate function, so that `fill` can be inlined. The block must
+    /// have fewer than `want` bytes.
     #[inline(never)]
     fn fill_slowly<S: Source>(&mut self, source: &mut S, want: usize) -> Result<(), DeviceError>
         requires countable { S.failures source.old < u64.MAX }

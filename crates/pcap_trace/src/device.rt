@@ -17,7 +17,8 @@ pub trait Source {
     /// The bytes that are left to read, if the source knows them.
     ghost left: { Self → Option (List ℕ) };
 
-    /// The maximum number of bytes that the source can still return.
+    /// The maximum number of bytes that the source can still return. Before each read, this number is below 2^64
+    /// (`counted`).
     ghost limit: { Self → ℕ };
 
     /// The number of times the source has failed.

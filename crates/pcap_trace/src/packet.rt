@@ -57,7 +57,7 @@ fn fraction_of(unit: Unit, time: u64) -> u32
     }
 }
 
-/// Returns the file header of written traces with this unit.
+/// Returns the file header of written traces with this unit. Bytes 8 to 15 are 0.
 #[tactic(auto, unfolding(crate::specs::Format::file_header))]
 pub fn file_header(unit: Unit) -> [u8; FILE_HEADER]
     ensures { result ≡ file_header unit }

@@ -41,8 +41,9 @@ fn packet_lengths<T: ByteOrder>(bytes: &[u8]) -> Option<Lengths>
     })
 }
 
-/// Reads the packets after the file header. The function is compiled once for each byte order, which keeps the loop
-/// short.
+/// Reads the packets after the file header, up to the source's end: first the bytes of the block, then those of the
+/// source. The number of all these bytes must be below 2^64. The function is compiled once for each byte order, which
+/// keeps the loop short. Its proof uses the label `'packets`.
 #[inline(never)]
 fn read_body<T: ByteOrder, S: Source>(
     alloc: Global,

@@ -44,7 +44,7 @@ fn new_block(alloc: Global) -> Result<Vec<u8>, AllocError>
     vec![in alloc; 0; BLOCK]
 }
 
-/// Writes bytes into a block from `start` on.
+/// Writes bytes into a block from `start` on. The bytes must fit into the block.
 fn write_at(block: &mut [u8], start: usize, bytes: &[u8])
     requires room { start + length bytes.now ≤ length block.old }
     ensures { block.new ≡ take start block.old ++ bytes.now ++ drop (start + length bytes.now) block.old }
@@ -52,7 +52,8 @@ fn write_at(block: &mut [u8], start: usize, bytes: &[u8])
     block[start..start + bytes.len()].copy_from_slice(bytes);
 }
 
-/// Writes bytes after the first `end` bytes of a block, and returns the number of bytes up to their end.
+/// Writes bytes after the first `end` bytes of a block, and returns the place after the last byte written. The bytes
+/// must fit into the block.
 fn put(block: &mut [u8], end: usize, bytes: &[u8]) -> usize
     requires room { end + length bytes.now ≤ length block.old }
     ensures put { take result block.new ≡ take end block.old ++ bytes.now }

@@ -30,7 +30,8 @@ pub fn write_all<W: Sink>(sink: &mut W, bytes: &[u8]) -> Result<(), WriteError>
     Ok(())
 }
 
-/// Writes a packet with times in `unit`. `packet` is its time in microseconds, and its frame.
+/// Writes a packet, in two slices. `packet` is its time in microseconds, and its frame; the written time is in `unit`.
+/// If the sink fails, a beginning of the packet was written.
 fn write_packet<W: Sink>(sink: &mut W, unit: Unit, packet: &(u64, Frame)) -> Result<(), WriteError>
     requires { W.failures sink.old < u64.MAX }
     ensures ok { OnOk result (Appends (W.taken sink.old) (W.taken sink.new) (packet_of unit (timed packet.now))) }

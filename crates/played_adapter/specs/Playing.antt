@@ -46,7 +46,7 @@ abbrev pub empty_queues : (frames steps : ℕ) → Queues
 empty_queues frames steps =
     record { wire = record { capacity = frames; frames = [] }; offered = []; scheduled = record { items = []; capacity = steps } }
 
--- a new adapter with these frames and steps that wait, whose memory has this address, before its first access
+-- a new adapter with these frames and steps that wait, whose memory has this address, before its first access; a seed has 16 bytes
 unfoldable pub new_with_queues : Queues → (memory : List ℕ) → AdapterState → Option Ptr → PlayedAdapter
 new_with_queues queues memory adapter address = record {
   machine = record { world = record { memory = memory; adapter = adapter }; reported = is_asserted adapter };
@@ -181,7 +181,7 @@ expected wire_free [] = Nothing
 expected true (queued ∷ later) = Put queued.frame
 expected false (queued ∷ later) = WireFull
 
--- A step of this kind is played, and counted if the step does something.
+-- A step of this kind is played, and counted if the step does something. A state is an adapter and the number of steps counted so far.
 pub record PlaysStepOfKind (kind : StepKind) (a b : PlayedAdapter × ℕ) (told : List Told) : Type 0 where
   -- the outcome of the step
   pub outcome : Outcome (Unit {0})
@@ -391,7 +391,8 @@ pub record AnswersStore (address : ℕ) (bytes : List ℕ) (answer : Bool) (a b 
   -- if memory doesn't contain all of them, nothing happens
   pub refused : answer ≡ false → (b ≡ a) × (told ≡ [])
 
--- If ticks are off, no steps are drawn and no scheduled step is due, the access is counted, and nothing but the access happens.
+-- Suppose that ticks are off, no steps are drawn, and no scheduled step is due. Then the access is counted, and nothing but the access
+-- happens.
 abbrev pub QuietAccessesAreExact : Type 0
 QuietAccessesAreExact =
     (access : Access) (a b : PlayedAdapter) (told : List Told) → a.ticks ≡ false → a.most_steps ≡ 0 → due_in a ≡ []

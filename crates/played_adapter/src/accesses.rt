@@ -33,7 +33,7 @@ impl PlayedAdapter {
     }
 
     /// Returns whether ticks are off, no steps are drawn, and no step is scheduled. If so, no step is played before the
-    /// next access.
+    /// next access. The clause states nothing about the result `false`.
     #[inline(always)]
     fn is_quiet(&self) -> bool
         ensures { result ≡ true →
@@ -54,7 +54,7 @@ impl PlayedAdapter {
         self.prepare_steps(observer);
     }
 
-    /// As [`prepare`](PlayedAdapter::prepare), without the test whether there are steps to play.
+    /// Does what [`prepare`](PlayedAdapter::prepare) does, without the test whether there are steps to play.
     #[inline(never)]
     fn prepare_steps<O: Observer>(&mut self, observer: &mut O)
         ensures { Tells O.heard observer.old observer.new (Prepares self.old self.new) }
@@ -86,7 +86,8 @@ impl PlayedAdapter {
         self.report(observer);
     }
 
-    /// Loads bytes from memory, and reports the load and then a change of the interrupt line, if there is one.
+    /// Loads bytes from memory, and reports the load and then a change of the interrupt line, if there is one. Memory
+    /// must contain all of these bytes.
     pub(crate) fn load_now<O: Observer>(&mut self, address: u64, into: &mut [u8], observer: &mut O)
         requires { address + length into.old ≤ length self.old.machine.world.memory }
         ensures tells { Tells O.heard observer.old observer.new
@@ -98,7 +99,8 @@ impl PlayedAdapter {
         self.report(observer);
     }
 
-    /// Stores bytes in memory, and reports the store and then a change of the interrupt line, if there is one.
+    /// Stores bytes in memory, and reports the store and then a change of the interrupt line, if there is one. Memory
+    /// must contain all of their places.
     pub(crate) fn store_now<O: Observer>(&mut self, address: u64, bytes: &[u8], observer: &mut O)
         requires { address + length bytes.now ≤ length self.old.machine.world.memory }
         ensures { Tells O.heard observer.old observer.new (HappensAlone (Stores address bytes.now) self.old self.new) }
@@ -121,7 +123,7 @@ impl PlayedAdapter {
         self.read_after_steps(offset, observer)
     }
 
-    /// As [`read`](PlayedAdapter::read), without the test whether there are steps to play.
+    /// Does what [`read`](PlayedAdapter::read) does, without the test whether there are steps to play.
     #[inline(never)]
     fn read_after_steps<O: Observer>(&mut self, offset: u32, observer: &mut O) -> u32
         ensures { Tells O.heard observer.old observer.new (Accessed (Reads offset result) self.old self.new) }
@@ -144,7 +146,7 @@ impl PlayedAdapter {
         self.write_after_steps(offset, value, observer);
     }
 
-    /// As [`write`](PlayedAdapter::write), without the test whether there are steps to play.
+    /// Does what [`write`](PlayedAdapter::write) does, without the test whether there are steps to play.
     #[inline(never)]
     fn write_after_steps<O: Observer>(&mut self, offset: u32, value: u32, observer: &mut O)
         ensures { Tells O.heard observer.old observer.new (Accessed (Writes offset value) self.old self.new) }
@@ -161,8 +163,7 @@ impl PlayedAdapter {
         count <= size && address <= size - count
     }
 
-    /// Plays the steps before an access, and loads the bytes from an address on into the whole of `into`. Returns
-    /// `true`.
+    /// Plays the steps before an access, and fills `into` with the bytes of memory from an address on. Returns `true`.
     ///
     /// If some of these bytes are outside memory, returns `false`, and nothing happens.
     pub fn load<O: Observer>(&mut self, address: u64, into: &mut [u8], observer: &mut O) -> bool

@@ -83,7 +83,8 @@ impl PlayedAdapter {
         }
     }
 
-    /// Plays the moves of the default steps: a held step's hold, else the step. A step without work has no move.
+    /// Plays the moves of the default steps: a held step's hold, else the step. A step that has no work before the
+    /// first move has no move.
     fn make_ticks<O: Observer>(&mut self, held: Held, observer: &mut O)
         ensures { Tells O.heard observer.old observer.new
             (InOrder Makes (spec.tick_moves held self.old) self.old self.new) }
@@ -106,8 +107,8 @@ impl PlayedAdapter {
         }
     }
 
-    /// Plays the moves of the default steps, and then of the due actions, before an access of a target with this name.
-    /// The agenda counts the access.
+    /// Plays the moves of the default steps, and then of the due actions, before an access of this kind, whose target
+    /// has this name. The agenda counts the access.
     pub fn meet_access<O: Observer>(
         &mut self,
         agenda: &mut Agenda,
@@ -125,8 +126,8 @@ impl PlayedAdapter {
         agenda.count(&event);
     }
 
-    /// Plays the moves of the actions that are due before a request with this first word. The agenda counts the
-    /// request.
+    /// Plays the moves of the actions that are due before a request of this kind, with this first word. The agenda
+    /// counts the request.
     pub fn meet_request<O: Observer>(
         &mut self,
         agenda: &mut Agenda,

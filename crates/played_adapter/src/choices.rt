@@ -86,7 +86,8 @@ impl PlayedAdapter {
         choice_numbered(word % CHOICES)
     }
 
-    /// Delivers the oldest offered frame, if there is one.
+    /// Delivers the oldest offered frame, if there is one. Reports the arrival, and then a change of the interrupt
+    /// line, if there is one.
     fn deliver_next<O: Observer>(&mut self, observer: &mut O)
         ensures { Tells O.heard observer.old observer.new (NextArrives self.old self.new) }
     {
@@ -109,7 +110,7 @@ impl PlayedAdapter {
         }
     }
 
-    /// Plays a step, and notes the step if it did something.
+    /// Plays a step, and then reports its action to the observer if the step did something.
     fn choose_step<O: Observer>(&mut self, kind: StepKind, observer: &mut O)
         ensures { Tells O.heard observer.old observer.new (StepChosen kind self.old self.new) }
     {
@@ -117,7 +118,8 @@ impl PlayedAdapter {
         self.note(did(outcome), step_action(kind), observer);
     }
 
-    /// Delivers the oldest offered frame and notes the arrival, if there is an offered frame.
+    /// Delivers the oldest offered frame, and then reports the action `Arrive` to the observer. If no frame is offered,
+    /// nothing happens.
     fn choose_arrival<O: Observer>(&mut self, observer: &mut O)
         ensures { Tells O.heard observer.old observer.new (ArrivalChosen self.old self.new) }
     {

@@ -10,7 +10,7 @@ use descriptors::copy_of;
 use rand_pcg::Lcg64Xsh32;
 use std::alloc::AllocError;
 
-/// Returns a copy of the adapter and its memory.
+/// Returns a copy of the adapter and its memory. Fails only if memory was refused.
 fn copy_of_machine(machine: &Machine) -> Result<Machine, AllocError>
     ensures { IfOk result (λ copy. copy ≡ machine.now) }
 {

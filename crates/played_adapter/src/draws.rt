@@ -18,7 +18,7 @@ use rand_pcg::Lcg64Xsh32;
 /// The number of kinds of steps.
 pub(crate) const KINDS: u32 = 6;
 
-/// Returns the kind of steps with this number, from 0 to 5.
+/// Returns the kind of steps with this number, from 0 to 5. A greater number also means `PhyTick`.
 pub(crate) fn kind_numbered(number: u32) -> StepKind
     ensures { result ≡ kinds.kind_numbered number }
 {
@@ -33,8 +33,8 @@ pub(crate) fn kind_numbered(number: u32) -> StepKind
 }
 
 impl PlayedAdapter {
-    /// From now on, up to `most` steps and arrivals are played before each access. A generator with this seed draws
-    /// them. If `most` is 0, nothing is drawn.
+    /// Sets the maximum number of steps and arrivals that are drawn before each access, and replaces the generator by
+    /// one with this seed, expanded to 16 bytes. If `most` is 0, nothing is drawn.
     pub fn interleave(&mut self, most: u16, seed: u64)
         ensures { self.new ≡ record self.old { generator = pcg32_of_seed (pcg32_seed 16 seed); most_steps = most } }
     {

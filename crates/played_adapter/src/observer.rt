@@ -18,8 +18,8 @@ pub trait Observer {
     /// Holds between two states of the observer if the observer was told this list, in order, between them.
     ghost heard: { Self → Self → List Told → Type 0 };
 
-    /// A step had this outcome. If the step put a frame, `frame` is this frame; otherwise `frame` has no meaning. If
-    /// the outcome is a fault, `fault` contains its engine, index and reason.
+    /// A step had this outcome. If the step put a frame, `frame` is this frame; otherwise `frame` has no meaning.
+    /// `frame` has at most 1,518 bytes. If the outcome is a fault, `fault` contains its engine, index and reason.
     fn stepped(
         &mut self,
         kind: StepKind,
@@ -46,7 +46,7 @@ pub trait Observer {
     fn written(&mut self, offset: u32, value: u32)
         ensures { heard self.old self.new (told.Accessed (Writes offset value) ∷ []) };
 
-    /// These bytes were loaded from memory, from an address on.
+    /// These bytes were loaded from memory, from an address on. `heard` lists only the address and their number.
     fn loaded(&mut self, address: u64, bytes: &[u8])
         ensures { heard self.old self.new (told.Accessed (Loads address (length bytes.now)) ∷ []) };
 

@@ -21,7 +21,7 @@ use std::ptr::from_ref;
 pub struct PlayedAdapter {
     /// The adapter and its host's memory.
     pub machine: Machine,
-    /// The address of the first byte of memory, or `None` if memory is empty.
+    /// The address of the first byte of memory, or `None` if memory is empty. Contracts don't define its value.
     pub address: Option<*const u8>,
     /// The frames that the adapter put on the wire and that nobody has taken, the oldest first.
     pub wire: FrameQueue,
@@ -79,7 +79,7 @@ pub(crate) fn address_of(memory: &HostMemory) -> Option<*const u8> {
 
 impl PlayedAdapter {
     /// Returns this adapter with this memory, and these frames and steps that wait. No step is played before or after
-    /// an access.
+    /// an access. The generator has the seed 0.
     #[tactic(auto, unfolding(crate::specs::Playing::new_with_queues))]
     fn with_queues(adapter: Adapter, memory: HostMemory, queues: Queues) -> PlayedAdapter
         ensures { result ≡ new_with_queues queues memory adapter result.address }
@@ -133,8 +133,8 @@ impl PlayedAdapter {
         PlayedAdapter::with_room(alloc, adapter, memory, WIRE_FRAMES, MOST_SCHEDULED)
     }
 
-    /// As [`new`](PlayedAdapter::new), but frames that are put don't wait, and no step can be scheduled. The generator
-    /// has this seed.
+    /// Returns an adapter as [`new`](PlayedAdapter::new) does, but frames that are put don't wait, and no step can be
+    /// scheduled. The generator has this seed.
     ///
     /// # Errors
     ///

@@ -1,4 +1,5 @@
-// Calls for requests of the server. The C library also calls `serve_settle` and `serve_choose`.
+// Calls for requests of the server. The C library also calls `serve_settle` and `serve_choose`. Cycles are played until
+// one does nothing, up to a maximum.
 
 ghost use Rattle.std.specs.Prelude.{◌<◌, IsTrue, length};
 ghost use Rattle.bus.specs.declared.event.Access.TheVariants.{Reads, Stores, Writes};
@@ -18,11 +19,12 @@ impl PlayedAdapter {
     fn pace_cycles<O: Observer>(&mut self, observer: &mut O)
         ensures { Tells O.heard observer.old observer.new (Paced self.old self.new) }
     {
-        // Unlike `settle`, cycles of `pace` have no answer, so the number of their steps isn't reported.
+        // The number of steps isn't part of an answer to an access or an arrival.
         let _moved = self.settle(u32::from(self.pace), observer);
     }
 
-    /// Plays what the generator draws, reads the register at an offset in bytes, and plays cycles.
+    /// Plays what the generator draws, reads the register at an offset in bytes, and then plays up to `pace` cycles.
+    /// Returns the value that was read.
     pub fn serve_read<O: Observer>(&mut self, offset: u32, observer: &mut O) -> u32
         ensures { Tells O.heard observer.old observer.new (ServesAccess (Reads offset result) self.old self.new) }
     {
@@ -32,7 +34,7 @@ impl PlayedAdapter {
         value
     }
 
-    /// Plays what the generator draws, writes the register at an offset in bytes, and plays cycles.
+    /// Plays what the generator draws, writes the register at an offset in bytes, and then plays up to `pace` cycles.
     pub fn serve_write<O: Observer>(&mut self, offset: u32, value: u32, observer: &mut O)
         ensures { Tells O.heard observer.old observer.new (ServesAccess (Writes offset value) self.old self.new) }
     {
@@ -41,7 +43,8 @@ impl PlayedAdapter {
         self.pace_cycles(observer);
     }
 
-    /// Plays what the generator draws, loads bytes of memory from an address on, and plays cycles.
+    /// Plays what the generator draws, fills `into` with the bytes of memory from an address on, and then plays up to
+    /// `pace` cycles. Memory must contain all of these bytes.
     pub fn serve_load<O: Observer>(&mut self, address: u64, into: &mut [u8], observer: &mut O)
         requires { IsTrue (has_bytes self.old address (length into.old)) }
         ensures { Tells O.heard observer.old observer.new
@@ -52,7 +55,8 @@ impl PlayedAdapter {
         self.pace_cycles(observer);
     }
 
-    /// Plays what the generator draws, stores bytes in memory from an address on, and plays cycles.
+    /// Plays what the generator draws, stores bytes in memory from an address on, and then plays up to `pace` cycles.
+    /// Memory must contain all of their places.
     pub fn serve_store<O: Observer>(&mut self, address: u64, bytes: &[u8], observer: &mut O)
         requires { IsTrue (has_bytes self.old address (length bytes.now)) }
         ensures { Tells O.heard observer.old observer.new
@@ -63,7 +67,7 @@ impl PlayedAdapter {
         self.pace_cycles(observer);
     }
 
-    /// Delivers a frame, and plays cycles. Returns the frame's fate.
+    /// Delivers a frame, and then plays up to `pace` cycles. Returns the frame's fate.
     pub fn serve_arrival<O: Observer>(&mut self, frame: &[u8], observer: &mut O) -> Fate
         ensures { Tells O.heard observer.old observer.new (ServesArrival frame.now result self.old self.new) }
     {

@@ -35,7 +35,7 @@ impl PlayedAdapter {
     }
 
     /// Removes and returns the first scheduled step if this step is due before the next access. Otherwise returns
-    /// `None`.
+    /// `None` and changes nothing. The next access has the number `accesses`.
     fn take_due(&mut self) -> Option<ScheduledStep>
         ensures step { result ≡ slice_get (due_in self.old) 0 }
         ensures state { IfSome result (λ step. self.new ≡ without_next self.old) }

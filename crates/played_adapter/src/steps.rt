@@ -67,20 +67,23 @@ impl PlayedAdapter {
         }
     }
 
-    /// Makes the adapter take a step. If `keeps_put` is set, a frame that the step puts is then on the wire.
+    /// Makes the adapter take a step, and returns the step's outcome. If `keeps_put` is set, a frame that the step puts
+    /// is then on the wire.
     #[inline(always)]
     fn take_step(&mut self, kind: StepKind) -> Outcome<()>
         ensures occurs { Occurs (step_of kind result self.old) self.old.machine.world }
         ensures state { self.new ≡ after_played_step kind result self.old }
     {
         let wire_free = self.has_room();
+        // The frame is copied before the step, which removes it from the adapter.
         if self.keeps_put && wire_free && kind == StepKind::TxPut {
             self.copy_next_put();
         }
         self.machine.step(kind, wire_free)
     }
 
-    /// Reports a step `TxPut` before the step is taken, so that the observer can borrow the frame.
+    /// Reports a step `TxPut` before the step is taken, so that the observer can borrow the frame. The reported outcome
+    /// is the one that the step will have.
     #[inline(always)]
     fn tell_put<O: Observer>(&self, observer: &mut O)
         ensures { O.heard observer.old observer.new (told.Stepped TxPut
@@ -97,7 +100,8 @@ impl PlayedAdapter {
         }
     }
 
-    /// Reports a step `TxPut`, and makes the adapter take this step.
+    /// Reports a step `TxPut`, and makes the adapter take this step. Then reports a change of the interrupt line, if
+    /// there is one. Returns the step's outcome.
     fn put<O: Observer>(&mut self, observer: &mut O) -> Outcome<()>
         ensures { Tells O.heard observer.old observer.new (Steps TxPut result self.old self.new) }
     {
@@ -117,6 +121,7 @@ impl PlayedAdapter {
         }
         let outcome = self.take_step(kind);
         let fault = self.fault_told(kind, outcome);
+        // Only a `TxPut` puts a frame.
         observer.stepped(kind, outcome, &[], fault);
         self.report(observer);
         outcome

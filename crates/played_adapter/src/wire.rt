@@ -9,8 +9,8 @@ use crate::player::PlayedAdapter;
 pub const WIRE_FRAMES: u8 = 64;
 
 impl PlayedAdapter {
-    /// Returns whether the wire has room for a frame: the wire is free and, if `keeps_put` is set, fewer frames wait on
-    /// it than fit.
+    /// Returns whether the wire has room for a frame: the wire is free, and fewer frames wait on it than fit. If
+    /// `keeps_put` isn't set, only the first condition counts.
     #[inline(always)]
     pub(crate) fn has_room(&self) -> bool
         ensures { result ≡ has_room self.now }
@@ -18,8 +18,8 @@ impl PlayedAdapter {
         self.wire_free && (!self.keeps_put || self.wire.len() < self.wire.capacity())
     }
 
-    /// Appends a copy of the frame that the adapter puts next, if there is one, to the frames on the wire. The wire
-    /// must have room.
+    /// Appends a copy of the frame that the adapter puts next, if there is one, to the frames on the wire. Fewer frames
+    /// must wait on the wire than fit.
     pub(crate) fn copy_next_put(&mut self)
         requires { length self.old.wire.frames < self.old.wire.capacity }
         ensures { self.new ≡ record self.old {

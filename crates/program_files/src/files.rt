@@ -49,6 +49,7 @@ fn read_up_to<S: Read + Drop>(
 
 /// Reads standard input or a pipe to its end. Fails if there are more than [`MOST_PIPED`] bytes.
 fn read_pipe<S: Read + Drop>(alloc: Global, path: &str, reader: S) -> Result<Vec<u8>, FileError> {
+    // One byte more shows that the input is too long.
     let bytes = read_up_to(alloc, path, reader, MOST_PIPED + 1)?;
     if bytes.len() as u64 > MOST_PIPED {
         return Err(FileError::Pipe);

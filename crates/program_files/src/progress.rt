@@ -53,6 +53,7 @@ impl<'a, R: Watched, F> ReportingReader<'a, R, F> {
 
     /// Counts further bytes that were read. If progress is reported, reports when the end of a step is reached.
     fn count(&mut self, bytes: u64) {
+        // With the additional byte, a step isn't empty, and the file ends before the end of the last step.
         let step = self.length / STEPS + 1;
         let before = self.done / step;
         self.done = self.done.saturating_add(bytes);

@@ -30,7 +30,7 @@ fn has_adapter_of(asked: &Job<'_>, job: &ServeJob<'_>) -> bool
     }
 }
 
-/// Returns the words of `serve` with these options.
+/// Returns the words of the program that run `serve` with these options.
 fn serve_words<'a>(alloc: Global, options: &'a [String]) -> Result<Vec<&'a str>, AllocError>
     ensures { IfOk result (λ words. texts words.items ≡ spec.serve_words (map string_bytes options.entry.now)) }
 {
@@ -43,7 +43,7 @@ fn serve_words<'a>(alloc: Global, options: &'a [String]) -> Result<Vec<&'a str>,
     Ok(words)
 }
 
-/// Returns false if words are refused with this error. Fails if the error is that memory was refused.
+/// Returns `false` if words are refused with this error. Fails if the error is that memory was refused.
 fn answer_to(error: &LineError<'_>) -> Result<bool, AllocError>
     ensures { IfOk result (λ answer. (answer ≡ false) × (error.now ≢ Memory)) }
 {
@@ -53,7 +53,8 @@ fn answer_to(error: &LineError<'_>) -> Result<bool, AllocError>
     }
 }
 
-/// Returns whether these options are for the adapter of this job. Fails only if memory was refused.
+/// Returns whether these options are for the adapter of this job; `false` if the options are invalid. Fails only if
+/// memory was refused.
 pub fn is_for(alloc: Global, options: &[String], job: &ServeJob<'_>) -> Result<bool, AllocError>
     ensures { IfOk result (spec.IsSameAdapterAnswer (spec.serve_words (map string_bytes options.now)) job.now) }
 {

@@ -52,8 +52,8 @@ fn recording(alloc: Global, job: &ServeJob<'_>) -> Option<Player> {
     }
 }
 
-/// Returns the player of a server, if the job asks for a schedule or a record. If the schedule is for
-/// another adapter than this job's, returns `OtherOptions`.
+/// Returns the player of a server, if the job asks for a schedule or a record. Fails with `OtherOptions` if the
+/// schedule is for another adapter than this job's.
 pub fn player_of<R: Files + Input + AllocGlobal>(
     rt: &R,
     job: &ServeJob<'_>,

@@ -4,16 +4,16 @@ ghost use Rattle.program_files.specs.Words as spec;
 
 use std::alloc::{AllocError, Global};
 
-/// Returns whether a word is an option of `serve` that isn't an option of the adapter, and whose value is the next
-/// word.
+/// Returns whether a word is one of the options of `serve` that aren't options of the adapter. Then the next word is
+/// the option's value.
 fn is_run_option(word: &str) -> bool
     ensures { result ≡ spec.is_run_option word.now }
 {
     word == "--schedule" || word == "--record" || word == "--seed"
 }
 
-/// Returns whether a word is an option of `serve` that isn't an option of the adapter, and the option's value, joined
-/// by `=`.
+/// Returns whether a word contains both an option and its value, joined by `=`, and the option is one of `serve` that
+/// isn't an option of the adapter.
 fn has_run_option(word: &str) -> bool
     ensures { result ≡ spec.has_run_option word.now }
 {

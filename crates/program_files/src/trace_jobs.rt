@@ -17,7 +17,8 @@ pub fn unit_of(nanos: bool) -> Unit {
     if nanos { Unit::Nanos } else { Unit::Micros }
 }
 
-/// Writes to a sink the frames of a trace that pass the job's filter. Returns the counts.
+/// Writes to a sink the frames of a trace that pass the job's filter. Returns the counts. The filter's VLAN must be at
+/// most 4,095, and the sink must have failed fewer than 2^64 - 1 times.
 fn pass_trace<S: Sink>(
     rt: &HostRuntime,
     job: &PassJob<'_>,
@@ -48,7 +49,7 @@ fn finish_pass(
 }
 
 /// Writes to a file the frames of a trace that pass, and to standard output the line of counts. If not all of these
-/// frames were written, abandons the file.
+/// frames were written, abandons the file. The VLAN of the job's filter must be at most 4,095.
 fn pass_to_file(rt: &HostRuntime, job: &PassJob<'_>, trace: &Trace) -> Result<(), FileError>
     requires { HasVlanNumber job.now.filter }
 {
@@ -63,7 +64,7 @@ fn pass_to_file(rt: &HostRuntime, job: &PassJob<'_>, trace: &Trace) -> Result<()
 }
 
 /// Writes to standard output the frames of a trace that pass, and to standard error the line of counts. A failed write
-/// to standard error isn't an error.
+/// to standard error isn't an error. The VLAN of the job's filter must be at most 4,095.
 fn pass_to_standard_output(
     rt: &HostRuntime,
     job: &PassJob<'_>,
@@ -77,7 +78,7 @@ fn pass_to_standard_output(
 }
 
 /// Does the job of `pass`: reads IN, and writes to OUT the frames that pass. Writes the line of counts to standard
-/// output, or to standard error if OUT is standard output.
+/// output, or to standard error if OUT is standard output. The VLAN of the job's filter must be at most 4,095.
 ///
 /// # Errors
 ///

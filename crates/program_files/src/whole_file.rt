@@ -50,11 +50,13 @@ fn new_file<R: Files>(rt: &R, name: &str) -> NewFile<R::File> {
     }
 }
 
-/// Makes a part, which is a new file, and returns the part with its path. Returns `None` if no part can be made.
+/// Makes a part, which is a new file, and returns the part with its path. Returns `None` if no part can be made. Fails
+/// only if memory is refused.
 fn new_part<R: Files + AllocGlobal>(
     rt: &R,
     path: &str,
 ) -> Result<Option<(R::File, String)>, FileError> {
+    // No file can have such a path, so there is nothing to replace.
     if path.is_empty() || path.ends_with('/') {
         return Ok(None);
     }
@@ -80,7 +82,7 @@ fn take_permissions<F: OpenFile>(part: &F, old: &Metadata) -> bool {
 }
 
 /// Makes a part with the owner, the group and the permissions of the file that it replaces. Returns `None` if no such
-/// part can be made.
+/// part can be made. Fails only if memory is refused.
 fn part_like<R: Files + AllocGlobal>(
     rt: &R,
     path: &str,
@@ -108,7 +110,7 @@ impl<F: OpenFile + std::io::Write + Drop> WholeFile<F> {
         }
     }
 
-    /// Returns an output that is written in place.
+    /// Returns an output that is written in place. The sink must not have failed.
     fn in_place(sink: FileSink<F>) -> WholeFile<F>
         requires { ⟦<FileSink<F> as Sink>⟧.failures sink ≡ 0 }
         ensures { ⟦<FileSink<F> as Sink>⟧.failures result.sink ≡ 0 }
@@ -116,7 +118,8 @@ impl<F: OpenFile + std::io::Write + Drop> WholeFile<F> {
         WholeFile { sink, part: None }
     }
 
-    /// Must be called after all bytes were written. Renames the part, if there is one, to the output.
+    /// Renames the part, if there is one, to the output. Must be called after all bytes were written, with the path
+    /// that was passed to [`create_whole`].
     ///
     /// # Errors
     ///
@@ -135,7 +138,7 @@ impl<F: OpenFile + std::io::Write + Drop> WholeFile<F> {
         Err(WriteError::Write)
     }
 
-    /// Must be called if not all bytes were written. Removes the part, if there is one. An output that is written in
+    /// Removes the part, if there is one. Must be called if not all bytes were written. An output that is written in
     /// place keeps the bytes that were written.
     pub fn abandon<R: Files>(self, rt: &R) {
         let WholeFile { sink: _, part } = self;
@@ -154,6 +157,7 @@ fn open_replaceable<R: Files + AllocGlobal>(
 ) -> Result<WholeFile<R::File>, FileError>
     ensures { IfOk result (λ file. ⟦<FileSink<R::File> as Sink>⟧.failures file.sink ≡ 0) }
 {
+    // Even if a part replaces the file, the file must be writable.
     let Ok(file) = OpenOptions::new().write(true).open(rt, path) else {
         return Err(FileError::open(rt.alloc(), path));
     };

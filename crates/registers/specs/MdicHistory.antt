@@ -52,6 +52,7 @@ accesses (Write value ∷ []) = []
 accesses (Write value ∷ Tick ∷ later) = phy.Tick ∷ (access_of (operation_of value) value ++ accesses later)
 accesses (Write value ∷ Write next ∷ later) = accesses (Write next ∷ later)
 
+-- The state of the PHY after a list of events of MDIC is its state after the events at the PHY (`accesses`).
 abbrev pub AccessesByHistory : Type 0
 AccessesByHistory = (state : PhyState) (all : List MdicEvent) → (both_behind state all).phy ≡ phy_after_all (accesses all) state
 
@@ -87,11 +88,15 @@ told_of_link phy = if is_counting phy then Some (record { link_changed = comes_u
 -- A tick reports LSC if the link changed from down to up. The tick reports MDAC if a command ended whose I is set (manual, 13.4.7): the
 -- command of the write right before this tick, and no other.
 pub record ToldByHistory : Type 0 where
+  -- A tick before any other event: no command is pending.
   pub first : (state : PhyState) → told_behind state [] ≡ told_of_link state
+  -- A tick right after another tick: no command is pending.
   pub ticked : (state : PhyState) (before : List MdicEvent)
       → told_behind state (before ++ Tick ∷ []) ≡ told_of_link (phy_of state (before ++ Tick ∷ []))
+  -- A tick right after a write without a command.
   pub no_command : (state : PhyState) (before : List MdicEvent) (value : ℕ) → operation_of value ≡ None
       → told_behind state (before ++ Write value ∷ []) ≡ told_of_link (phy_of state (before ++ Write value ∷ []))
+  -- A tick right after a write with a command: the tick reports MDAC exactly if I is set in the written value.
   pub command : (state : PhyState) (before : List MdicEvent) (value : ℕ) (asked : Operation) → operation_of value ≡ Some asked
       → told_behind state (before ++ Write value ∷ [])
       ≡ Some (record { link_changed = comes_up (phy_of state (before ++ Write value ∷ [])); access_complete = is_set value mdic_i })

@@ -35,11 +35,13 @@ is_tick_of_phy Tick = true
 is_tick_of_phy (Read register) = false
 is_tick_of_phy (Write register value) = false
 
+-- Whether the event is a read of the status register, register 1.
 abbrev pub is_status_read : PhyEvent → Bool
 is_status_read Tick = false
 is_status_read (Read register) = register == 1
 is_status_read (Write register value) = false
 
+-- Whether the event is a write of the control register, register 0.
 abbrev pub is_control_write : PhyEvent → Bool
 is_control_write Tick = false
 is_control_write (Read register) = false
@@ -111,10 +113,13 @@ control_behind link events = read_value 0 (phy_behind link events)
 
 -- The control register reads bit 12 of the last value written to it. If this write was a reset, or nothing was written, bit 12 is 1.
 pub record ControlByHistory : Type 0 where
+  -- Before the first write of the register, bit 12 is 1.
   pub never_written : (link : Link) (all : List PhyEvent) → HasNo is_control_write all → control_behind link all ≡ alone control_enable
+  -- If the last write was a reset, bit 12 is 1.
   pub reset : (link : Link) (before : List PhyEvent) (value : ℕ) (after : List PhyEvent) → is_set value control_reset ≡ true
       → HasNo is_control_write after
       → control_behind link (before ++ Write 0 value ∷ after) ≡ alone control_enable
+  -- If the last write wasn't a reset, the register reads bit 12 of the written value.
   pub kept : (link : Link) (before : List PhyEvent) (value : ℕ) (after : List PhyEvent) → is_set value control_reset ≡ false
       → HasNo is_control_write after
       → control_behind link (before ++ Write 0 value ∷ after) ≡ (if is_set value control_enable then alone control_enable else 0)

@@ -22,7 +22,8 @@ impl ConfigAddress {
         ConfigAddress(value & KEPT)
     }
 
-    /// Returns whether accesses of CONFIG_DATA are enabled, and the numbers select the adapter.
+    /// Returns whether accesses of CONFIG_DATA are enabled, and the numbers select the adapter: bus 0, device 4,
+    /// function 0.
     pub(crate) fn selects_function(self) -> bool
         ensures { result ≡ selects_function self.0 }
     {
@@ -37,6 +38,7 @@ impl ConfigAddress {
     pub(crate) fn offset(self) -> u8
         ensures { result ≡ offset_in self.0 }
     {
+        // Bits 7:2 are the dword's number. With bits 1:0 clear, they are four times this number.
         (self.0 & 0xFC) as u8
     }
 }

@@ -16,7 +16,7 @@ pub enum Speed {
     Mbps10,
     /// 100 Mb/s.
     Mbps100,
-    /// 1000 Mb/s.
+    /// 1000 Mb/s: SPEED 10 or 11 in binary.
     Mbps1000,
 }
 

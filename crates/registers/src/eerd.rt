@@ -55,8 +55,9 @@ impl Eerd {
         }
     }
 
-    /// A write with START begins a read of the word at ADDR, and drops a pending read. A write without START is
-    /// ignored. (That a pending read is dropped, and that a write without START is ignored, is our choice.)
+    /// Writes the register. A write with START begins a read of the word at ADDR, and drops a pending read. A write
+    /// without START is ignored. (That a pending read is dropped, and that a write without START is ignored, is our
+    /// choice.)
     pub fn write(&mut self, value: u32)
         ensures { self.new ≡ eerd_after_write value self.old }
     {
@@ -88,8 +89,8 @@ impl Eerd {
         matches!(self.state, ReadState::Pending(_))
     }
 
-    /// Ends a pending read: the register then shows the word of the image. Returns whether a read was pending; if not,
-    /// nothing changes.
+    /// Ends a pending read: the register then contains the word of the image at ADDR. Returns whether a read was
+    /// pending before the call. If no read was pending, nothing changes.
     pub fn tick(&mut self, image: &Image) -> bool
         ensures state { self.new ≡ after_tick image.now self.old }
         ensures ended { result ≡ is_pending self.old }

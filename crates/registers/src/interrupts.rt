@@ -48,7 +48,7 @@ impl Causes {
         self.set(cause.bits());
     }
 
-    /// Reads ICR: returns all recorded causes, in the mask or not, and clears them.
+    /// Reads ICR: returns all recorded causes, in the mask or not, and clears them. The result's other bits are 0.
     pub fn read(&mut self) -> u32
         ensures answer { result ≡ self.old.recorded }
         ensures cleared { self.new ≡ record self.old { recorded = 0 } }
@@ -87,7 +87,7 @@ impl Causes {
         self.mask = self.mask.difference(Cause::kept(value));
     }
 
-    /// Returns the recorded causes, without clearing them.
+    /// Returns the recorded causes, without clearing them. The result's other bits are 0.
     pub fn recorded(&self) -> u32
         ensures answer { result ≡ self.now.recorded }
         ensures causes_alone { IsSubset result all_causes }
@@ -95,7 +95,7 @@ impl Causes {
         self.recorded.bits()
     }
 
-    /// Reads IMS: returns the mask.
+    /// Reads IMS: returns the mask. The result's other bits are 0.
     pub fn masked(&self) -> u32
         ensures answer { result ≡ self.now.mask }
         ensures causes_alone { IsSubset result all_causes }

@@ -60,8 +60,9 @@ pub fn mdic_by_history()
     ensures { MdicByHistory }
 {}
 
-/// The causes that the adapter records after a tick, which depend only on the history of MDIC. LSC is recorded if the
-/// link changed from down to up. MDAC is recorded if the write right before the tick contained a command and set I.
+/// The causes that the adapter records after a tick, by the history of MDIC. LSC is recorded exactly if the link
+/// changed from down to up. MDAC is recorded exactly if the event right before the tick is a write that contains a
+/// command and sets I.
 pub fn told_by_history()
     ensures { ToldByHistory }
 {}

@@ -68,6 +68,7 @@ pub struct Ticked {
 /// DATA is bits 15:0, REGADD 20:16, PHYADD 25:21, OP 27:26, R 28, I 29 and E 30.
 #[derive(Clone, Copy, Debug, PartialEq, Eq)]
 pub struct Mdic {
+    /// The value that a read returns.
     value: u32,
     /// The command that the next tick ends.
     pending: Option<Operation>,
@@ -97,8 +98,8 @@ impl Mdic {
         }
     }
 
-    /// Stores all bits of the value except R, E and bit 31, and begins the command of OP. A command that is still
-    /// pending is dropped (our choice). OP 00 and 11 begin no command.
+    /// Writes the register: stores all bits of the value except R, E and bit 31, and begins the command of OP. OP 00
+    /// and 11 begin no command. In each case, a command that is still pending is dropped (our choice).
     pub fn write(&mut self, value: u32)
         ensures { self.new ≡ mdic_after_write value }
     {
@@ -126,8 +127,9 @@ impl Mdic {
         phy.is_counting() || self.pending.is_some()
     }
 
-    /// Plays a tick: decreases the PHY's running link countdown, and then ends a pending command. Returns what the
-    /// adapter records. If no countdown is running and no command is pending, returns `None` and changes nothing.
+    /// Plays a tick: decreases the PHY's running link countdown, and then ends a pending command. Returns the report by
+    /// which the adapter records causes. If no countdown is running and no command is pending, returns `None` and
+    /// changes nothing.
     pub fn tick(&mut self, phy: &mut Phy) -> Option<Ticked>
         ensures mdic { self.new ≡ mdic_after_tick self.old phy.old }
         ensures phy { phy.new ≡ phy_after_tick self.old phy.old }

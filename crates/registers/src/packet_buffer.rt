@@ -63,7 +63,8 @@ impl PacketBufferAllocation {
         }
     }
 
-    /// Returns the value of PBA: RXA, and the kilobytes of the transmit part in the upper half.
+    /// Returns the value of PBA: RXA, an even number from 2 to 48, and the kilobytes of the transmit part in the upper
+    /// half.
     pub fn read(&self) -> u32
         ensures shown { result ≡ allocation_shown self.now }
         ensures allocation { IsAllocation self.now }

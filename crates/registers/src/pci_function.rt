@@ -52,6 +52,7 @@ const BASE_BITS: u64 = 0xFFFE_0000;
 /// In contracts, the value is a `PciState` (`specs/ConfigSpace.antt`).
 #[derive(Clone, Copy, Debug, PartialEq, Eq)]
 pub struct PciFunction {
+    /// The contents of CONFIG_ADDRESS.
     address: ConfigAddress,
     /// The command register.
     command: u32,
@@ -149,6 +150,7 @@ impl PciFunction {
             return None;
         }
         let first = usize::from(port - DATA_PORT);
+        // CONFIG_DATA has four ports.
         if first + width.size() > 4 {
             return None;
         }
@@ -191,7 +193,7 @@ fn interrupt_status(asserted: bool) -> u32
     if asserted { INTERRUPT_STATUS } else { 0 }
 }
 
-/// Returns whether an access is one of CONFIG_ADDRESS, which only accesses of four bytes at CF8h reach.
+/// Returns whether an access reaches CONFIG_ADDRESS: whether it is an access of four bytes at CF8h.
 fn is_address_port(port: u16, width: PortWidth) -> bool
     ensures { result ≡ is_address_port port width }
 {

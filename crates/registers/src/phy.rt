@@ -37,7 +37,7 @@ const NEGOTIATED: u16 = 1 << 5;
 /// The number of ticks that negotiation takes until the link is up, or `Never`.
 #[derive(Clone, Copy, Debug, PartialEq, Eq)]
 pub enum Link {
-    /// The link is up this number of ticks of the PHY after negotiation was started: 1 to 65,535. (0 acts as 1.)
+    /// After negotiation was started, the link is up after this number of ticks of the PHY: 1 to 65,535. (0 acts as 1.)
     After(u16),
     /// The link is never up.
     Never,
@@ -93,8 +93,8 @@ impl Phy {
     ghost use Rattle.registers.specs.Hashed.{phy_writes};
     ghost use Rattle.registers.specs.Phy.{comes_up, is_counting};
 
-    /// Returns a PHY whose link is down and whose negotiation was not started. `link` is the number of ticks that
-    /// negotiation takes until the link is up, or `Never`.
+    /// Returns a new PHY: the link is down, negotiation is enabled but not started, and the link status is latched low.
+    /// `link` is the number of ticks that negotiation takes until the link is up, or `Never`.
     pub fn new(link: Link) -> Self
         ensures { result ≡ new_phy link }
     {
@@ -120,7 +120,8 @@ impl Phy {
         matches!(self.negotiation, Negotiation::Running(_))
     }
 
-    /// Reads a register, and returns its value. A read of the status register also clears the latch of its link bit.
+    /// Reads a register, and returns its value before the call. A read of the status register also clears the latch of
+    /// its link bit.
     pub fn read(&mut self, register: u8) -> u16
         ensures value { result ≡ read_value register self.old }
         ensures state { self.new ≡ phy_after_read register self.old }
@@ -156,6 +157,7 @@ impl Phy {
         let Negotiation::Running(left) = self.negotiation else {
             return false;
         };
+        // The last tick makes the link up: with 1 tick left, or with 0, which acts as 1.
         if left > 1 {
             self.negotiation = Negotiation::Running(left - 1);
             return false;
@@ -186,7 +188,7 @@ impl Phy {
         if self.negotiation_enabled { ENABLE } else { 0 }
     }
 
-    /// Returns the value of the status register.
+    /// Returns the value of the status register: bit 5 if the link is up, and also bit 2 if it isn't latched low.
     fn status(&self) -> u16
         ensures { result ≡ status_value self.now }
     {
@@ -199,8 +201,8 @@ impl Phy {
         }
     }
 
-    /// Writes the control register. If bit 15 is set, the PHY is reset. Otherwise bit 12 is stored, and bits 12 and 9
-    /// together restart negotiation.
+    /// Writes the control register. If bit 15 is set, the PHY is reset, and its setting of the link is kept. Otherwise
+    /// bit 12 is stored, and bits 12 and 9 together restart negotiation.
     fn write_control(&mut self, value: u16)
         ensures { self.new ≡ after_control value self.old }
     {

@@ -17,7 +17,7 @@ use Rattle.run_record.specs.Tallies.{AreNoted, TalliesGrow, given_up_of}
 use Rattle.run_record.specs.declared.record.Record.{Record}
 
 -- The outcomes of these ticks are counted. Unless memory was refused, the frames that the ticks put are recorded if `old` has a list for
--- them. The texts of the ticks are recorded under the same condition if `old` has lines.
+-- them. The texts of the ticks are recorded under the same condition if `old` has lines. By `before`, `failed` is never set to false again.
 pub record HearsTicks (old new : Record) (ticks : List TickTold) : Type 0 where
   pub before : new.failed ≡ false → old.failed ≡ false
   pub number : new.number ≡ old.number
@@ -61,8 +61,8 @@ pub record TellsReset (host : ℕ) (given_up ticked happened : List Happening) :
   pub ticks : ticked ≡ early ++ (stopping ++ (resting ++ later))
   pub all : happened ≡ early ++ Disabled host ∷ (stopping ++ (given_up ++ (resting ++ Enabled host ∷ later)))
 
--- A reply has its outcomes in order. Only the reply to a reset is restricted: its happenings are in the order of `TellsReset`. Or the reply
--- has another answer than a reset's, and its happenings are only those of its ticks.
+-- A reply has its outcomes in order. This restricts only the reply to a reset event. Either its happenings are in the order of
+-- `TellsReset`, or its answer isn't that of a reset, such as `NoHost`, and its happenings are only those of its ticks.
 abbrev pub IsInOrder : Event → Reply → Type 0
 IsInOrder (event.Reset host ticks) reply =
     ((said (event.Reset host ticks) reply ≡ tick_happenings ticks.now reply.outcomes.list) × (given_up_of host reply.answer ≡ []))

@@ -29,6 +29,7 @@ pub stays : (k : ℕ) (found : Option Tally) → found ≡ option_map (tally_beh
 stays k None = refl
 stays k (Some tally) = refl
 
+-- Without happenings, no count changes.
 pub grows_not : (hosts : List Tally) → TalliesGrow [] hosts hosts
 grows_not hosts k = stays k (slice_get hosts k)
 
@@ -117,6 +118,7 @@ noted_none a = record {
 
 -- Ticks and events of two intervals.
 
+-- `HearsTicks` holds of no tick. If it holds of two consecutive intervals, it holds of both joined.
 pub ticks_compose : ComposesTold HearsTicks
 ticks_compose = record {
   stays = λ a. record {
@@ -166,6 +168,7 @@ order-first (one ∷ events) later (reply ∷ replies) others same order =
     let rest = order-first events later replies others (omega (arith, same)) order.1 in
     ((order.0, rest.0), rest.1)
 
+-- `RecordsReplies` holds of an interval without events. If it holds of two consecutive intervals, it holds of both joined.
 pub record_composes : ComposesRuns HearsTicks RecordsReplies (λ now one. ⊤)
 record_composes = record {
   quiet = λ a b heard. record {

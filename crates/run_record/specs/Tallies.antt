@@ -74,7 +74,8 @@ tally_given_up sending holding tally =
 abbrev pub given_up_at : (k host sending holding : ℕ) → Tally → Tally
 given_up_at k host sending holding tally = if k == host then tally_given_up sending holding tally else tally
 
--- If there was a reset: the numbers of frames that resets gave up, and of frames that reached the adapter while receive was disabled.
+-- The numbers of frames that resets gave up, and of frames that reached the adapter while its receive side was disabled. `None` if there
+-- was no reset.
 abbrev pub resets_in : Tally → Option GivenUp
 resets_in tally =
     if tally.is_reset then Some (record { sending = tally.sending; holding = tally.holding; off = tally.off }) else None
@@ -140,7 +141,7 @@ abbrev pub TallyGivesUp : (host sending holding : ℕ) → (old new : List Tally
 TallyGivesUp host sending holding old new =
     (k : ℕ) → slice_get new k ≡ option_map (given_up_at k host sending holding) (slice_get old k)
 
--- what `passage_of` finds: the passage in an outcome, if there is one
+-- `found` is the passage in an outcome, or `None` if the outcome isn't counted.
 abbrev pub IsPassage : FrameOutcome → Option Passage → Type 0
 IsPassage (outcome.Put frame) found = found ≡ Some passage.Put
 IsPassage (outcome.Delivered frame one) found = found ≡ Some (passage_by one)

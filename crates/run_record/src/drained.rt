@@ -33,7 +33,8 @@ impl DrainedFrames {
         }
     }
 
-    /// Removes all frames, and makes room for `room` frames. Allocates only if the list has less room.
+    /// Removes all frames, and makes room for `room` frames. Allocates only if the list has less room. If memory is
+    /// refused, the list is empty.
     pub fn make_room(&mut self, room: usize) -> Result<(), AllocError>
         ensures none { self.new.list.items ≡ [] }
         ensures room { OnOk result (room ≤ vec_capacity self.new.list - length self.new.list.items) }

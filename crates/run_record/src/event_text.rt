@@ -274,7 +274,7 @@ fn push_answer(text: &mut Vec<u8>, answer: &Answer<()>, frame: &[u8]) -> Result<
     push_numbers(text, answer, frame)
 }
 
-/// Appends the number of an event or a drain, and the number of its line in the scenario.
+/// Appends the number of an event or a drain, without a label, and the number of its line in the scenario.
 fn push_place(text: &mut Vec<u8>, place: Place) -> Result<(), AllocError>
     ensures { OnOk result (text.new.items ≡ text.old.items ++ lines.place_text place) }
 {
@@ -282,7 +282,8 @@ fn push_place(text: &mut Vec<u8>, place: Place) -> Result<(), AllocError>
     push_number(text, b" line ", place.line)
 }
 
-/// Appends the line of the event at this place. `outcomes` is the text of the event's ticks.
+/// Appends the line of the event at this place. `outcomes` is the text of the event's ticks. `frame` is the frame that
+/// a socket returned, if the answer has one.
 #[inline(never)]
 pub(crate) fn push_line(
     text: &mut Vec<u8>,

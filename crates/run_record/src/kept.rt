@@ -121,7 +121,7 @@ impl KeptFrames {
         self.bytes.reserve(count.saturating_mul(LONGEST_LEGAL))
     }
 
-    /// Appends a frame, with the numbers of its host, its socket, and its event or drain.
+    /// Appends a frame of at most 1,518 bytes, with the numbers of its host, its socket, and its event or drain.
     ///
     /// # Errors
     ///
@@ -182,8 +182,8 @@ impl KeptFrames {
         writer.flush(sink)
     }
 
-    /// Writes the frames of each trace to a sink: the first trace to the first sink, and so on. If there are fewer
-    /// sinks than traces, the last traces aren't written.
+    /// Writes the frames of each trace to a sink: the first trace to the first sink, and so on. There must not be more
+    /// sinks than traces. If there are fewer sinks, the last traces aren't written.
     ///
     /// # Errors
     ///

@@ -112,7 +112,7 @@ fn is_put(outcome: &Outcome<()>) -> bool
 }
 
 /// Records the frame of an outcome at a host, if the frame was put on a wire and such frames are recorded. `number` is
-/// the number of the event.
+/// the number of the event. The frame must have at most 1,518 bytes. The socket of a frame that was put is 0.
 #[inline(always)]
 fn note_put(
     puts: &mut Option<KeptFrames>,
@@ -171,7 +171,8 @@ fn note_reset(hosts: &mut [Tally], host: usize, answer: &Answer<()>)
     }
 }
 
-/// Counts and records the frames that a drained host returned. `number` is the number of the drain.
+/// Counts and records the frames that a drained host returned. `number` is the number of the drain. The clauses state 0
+/// moves of frames from the receive packet buffer, because moves are neither counted nor recorded.
 fn note_drained(
     hosts: &mut [Tally],
     returned: &mut KeptFrames,
@@ -253,8 +254,8 @@ impl Record {
         }
     }
 
-    /// Counts and records the frame that a socket returned, if the answer is that it returned a frame. Sets `failed` if
-    /// memory was refused.
+    /// Counts and records the frame that a socket returned, of at most 1,518 bytes, if the answer is that the socket
+    /// returned a frame. Sets `failed` if memory was refused.
     #[inline(always)]
     fn note_received(&mut self, host: usize, socket: usize, answer: &Answer<()>, frame: &[u8])
         requires fits { length frame.now ≤ 1518 }
@@ -273,7 +274,7 @@ impl Record {
     }
 
     /// Counts the frames that the answer to a send, a recv or a reset reports, and records the frame that a socket
-    /// returned. Changes nothing for other events.
+    /// returned. Changes nothing for other events. `frame` must have at most 1,518 bytes.
     #[inline(always)]
     fn note_answer(&mut self, event: &Event<'_>, answer: &Answer<()>, frame: &[u8])
         requires fits { length frame.now ≤ 1518 }
@@ -289,7 +290,8 @@ impl Record {
     }
 
     /// Counts and records the frames that a host returned in the next drain, and records the drain's line if lines are
-    /// recorded. The number of frames in the host's receive packet buffer before the drain isn't recorded.
+    /// recorded. The number of frames in the host's receive packet buffer before the drain isn't recorded: the clause
+    /// states 0. Fails if memory is refused.
     #[tactic(auto, using(crate::proofs::NotedEvents::drain_noted))]
     pub fn note_drain(&mut self, host: usize, given: &[DrainedFrame]) -> Result<(), AllocError>
         ensures { OnOk result
@@ -313,6 +315,7 @@ impl Observer for Record {
 
     ghost heard = { HearsTicks };
 
+    // 2^64, which is more than the length of any list of ticks.
     ghost room_left = { λ now. 18446744073709551616 };
 
     ghost composes = { ticks_compose };
@@ -337,6 +340,8 @@ impl RunObserver for Record {
 
     ghost ran = { RecordsReplies };
 
+    // If memory is refused for an answer, the record only sets `failed`. So it is ready for each answer (`ready`).
+    // `make_room` may refuse each event (`refuses`).
     ghost ready = { λ now event. ⊤ };
 
     ghost refuses = { λ now event. ⊤ };

@@ -140,7 +140,7 @@ impl RunLog {
         })
     }
 
-    /// Makes room for the line of an event with `ticks` ticks, if lines are recorded.
+    /// Makes room for the line of an event with `ticks` ticks, if lines are recorded. The log's value doesn't change.
     #[inline(always)]
     pub(crate) fn reserve(&mut self, ticks: usize) -> Result<(), AllocError>
         ensures { self.new ≡ self.old }
@@ -189,7 +189,7 @@ impl RunLog {
     }
 
     /// Counts the answer of the event at this place if it is a refusal, and records the event's line if lines are
-    /// recorded.
+    /// recorded. The texts of the event's ticks are then removed.
     #[inline(always)]
     pub(crate) fn end(
         &mut self,

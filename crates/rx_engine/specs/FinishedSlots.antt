@@ -24,7 +24,7 @@ abbrev pub piece_in : List ℕ → ℕ → Piece
 piece_in memory descriptor =
     piece_of (is_set (status_bits (descriptor_at memory descriptor).status) eop) (bytes_in memory (named memory descriptor))
 
--- Of `left` slots from a place on, the descriptor addresses of the slots before the first one that isn't done.
+-- The descriptor addresses of `left` slots from slot `place` on, up to, but not including, the first slot that isn't done.
 abbrev pub done_from : List ℕ → Ring → ℕ → ℕ → List ℕ
 done_from memory ring place left = take_while (is_done memory) (map (address_of ring) (slots_from (count_of ring) place left))
 

@@ -16,7 +16,7 @@ abbrev pub finished_status : Bool → ℕ
 finished_status true = union (alone dd) (alone eop)
 finished_status false = alone dd
 
--- Bytes 8 to 15 of a finished descriptor: the length, checksum 0, the status, errors 0, special 0.
+-- Bytes 8 to 15 of a finished descriptor: the length in two bytes, the lower one first, checksum 0, the status, errors 0, special 0.
 abbrev pub finished_bytes : ℕ → Bool → List ℕ
 finished_bytes n ends = little_bytes 2 n ++ 0 ∷ 0 ∷ finished_status ends ∷ 0 ∷ 0 ∷ 0 ∷ []
 

@@ -24,8 +24,8 @@ pub record ReceiveFilter : Type 1 where
   -- The broadcast address is accepted.
   pub broadcasts : Type 0
 
--- The filter accepts an address: it is a receive address, or the group table, UPE, MPE or BAM accepts it. The group table is used only
--- for group addresses, including the broadcast address (our choice).
+-- The filter accepts an address. A receive address is accepted. UPE accepts each individual address, MPE each group address, and BAM the
+-- broadcast address. The group table is used only for group addresses, including the broadcast address (our choice).
 unfoldable pub AcceptsAddress : ReceiveFilter → List ℕ → Type 0
 AcceptsAddress filter address =
     filter.addresses address

@@ -15,7 +15,7 @@ pub record FilterRegisters : Type 0 where
   pub mta : List ℕ
   -- VFTA, the VLAN filter table array of 128 words (13.5.4).
   pub vfta : List ℕ
-  -- RCTL (13.4.22), of which the filter reads UPE 3, MPE 4, MO 13:12, BAM 15 and VFE 18.
+  -- RCTL (13.4.22), of which the filter reads UPE (bit 3), MPE (bit 4), MO (bits 13:12), BAM (bit 15) and VFE (bit 18).
   pub rctl : ℕ
   -- VET, the VLAN type (13.4.11).
   pub vet : ℕ

@@ -27,7 +27,8 @@ pub struct AddressWords {
 }
 
 impl AddressWords {
-    /// Returns the words of an entry that contains this address, with AV set.
+    /// Returns the words of an entry that contains this address, with AV set. The clause `address` is true of each
+    /// array of six bytes, and is for the proofs of callers.
     pub fn of(address: &[u8; 6]) -> AddressWords
         ensures low { result.low ≡ low_word address.now }
         ensures high { result.high ≡ high_word address.now + alone rah_av }
@@ -59,7 +60,7 @@ pub(crate) fn destination_of(frame: &[u8]) -> [u8; 6]
     [frame[0], frame[1], frame[2], frame[3], frame[4], frame[5]]
 }
 
-/// Returns whether the address is a group address.
+/// Returns whether the address is a group address: the low bit of byte 0 is 1.
 pub(crate) fn is_group(address: &[u8; 6]) -> bool
     ensures { IsTrue result ↔ IsGroup address.now }
 {
@@ -73,7 +74,7 @@ pub(crate) fn is_broadcast(address: &[u8; 6]) -> bool
     *address == BROADCAST
 }
 
-/// Returns whether a receive address register pair is valid and contains this address.
+/// Returns whether the entry with these words, RAL and RAH, is valid (AV is set in RAH) and contains this address.
 fn holds_address(low: u32, high: u32, address: &[u8; 6]) -> bool
     ensures { IsTrue result ↔ HoldsAddress low high address.now }
 {
@@ -81,7 +82,7 @@ fn holds_address(low: u32, high: u32, address: &[u8; 6]) -> bool
     low == words.low && high % 0x1_0000 == words.high % 0x1_0000 && has_bit(high, 31)
 }
 
-/// Returns whether one of the 16 register pairs is valid and contains this address.
+/// Returns whether one of the 16 entries of RAL and RAH is valid and contains this address.
 pub(crate) fn has_entry(
     ral: &[u32; RECEIVE_ADDRESSES],
     rah: &[u32; RECEIVE_ADDRESSES],

@@ -85,12 +85,14 @@ pub fn rx_data(
     ensures only { ChangesOnly memory.old memory.new
         (area_at (named_address memory.old (address_of ring.old ring.old.head))
         (length (next_piece control.0 engine.old))) }
+    // The invariant of an engine's value, for the proofs of callers.
     ensures before { IsReceiver engine.old }
     ensures after { IsReceiver engine.new }
 {
     let Some(NextPiece { bytes, ends }) = next_piece(engine, ring, control) else {
         return Data::Nothing;
     };
+    // A piece has at most 1,518 bytes.
     let length = bytes.len() as u16;
     let Some(descriptor) = store_piece(ring, control, memory, bytes) else {
         engine.stop();
@@ -120,13 +122,15 @@ struct NextPiece<'a> {
     ends: bool,
 }
 
-/// Returns the piece that [`rx_data`] moves next, or `None` exactly if it has no frame to move.
+/// Returns the piece that [`rx_data`] moves next, of 1 to 1,518 bytes, or `None` exactly if [`rx_data`] has no frame to
+/// move.
 fn next_piece<'a>(engine: &'a RxEngine, ring: &Ring, control: Rctl) -> Option<NextPiece<'a>>
     ensures has { IsSome result ↔ HasFrameToMove control.0 ring.now engine.now }
     ensures bytes { IfSome result (λ piece. piece.bytes.now ≡ next_piece control.0 engine.now) }
     ensures ends { IfSome result (λ piece. piece.ends ≡ is_last control.0 engine.now) }
     ensures some { IfSome result (λ piece. 1 ≤ length piece.bytes.now) }
     ensures fits { IfSome result (λ piece. length piece.bytes.now ≤ 1518) }
+    // The invariant of an engine's value, for the proofs of callers.
     ensures sound { IsReceiver engine.now }
 {
     let left = engine.left()?;
@@ -185,6 +189,7 @@ fn buffer_named_at(memory: &HostMemory, descriptor: u64) -> Option<u64>
     ensures value { IfSome result (λ address. address ≡ named_address memory.now descriptor) }
 {
     let bytes = memory.view(descriptor, RX_DESC_BYTES).ok()?;
+    // The view has 16 bytes, so `first_chunk` never returns `None`.
     Some(RxDesc::from_bytes(bytes.first_chunk()?).address)
 }
 

@@ -32,9 +32,10 @@ pub enum Done {
 /// contains the length of the piece, DD, no error, and EOP if the frame ends in this piece. Returns `Nothing` if no
 /// piece is in progress.
 ///
-/// If memory ends before the end of the descriptor, nothing is written. In this case, too, no piece is in progress
-/// after the call. This case doesn't occur if `memory` has the same size as in the call of [`rx_data`](crate::rx_data)
-/// that moved the piece.
+/// If memory ends before the end of the descriptor, nothing is written, but the piece isn't in progress any more. This
+/// case doesn't occur if `memory` has the same size as in the call of [`rx_data`](crate::rx_data) that moved the piece.
+/// If the piece is inside memory and apart from its descriptor, the finished descriptor defines this piece
+/// (`finished`).
 pub fn rx_done(engine: &mut RxEngine, memory: &mut HostMemory) -> Done
     ensures nothing { (result ≡ Done.Nothing) ↔ (engine.old.work ≡ None) }
     ensures engine { engine.new ≡ engine_after_done engine.old }
@@ -45,6 +46,7 @@ pub fn rx_done(engine: &mut RxEngine, memory: &mut HostMemory) -> Done
         (bytes_at memory.old (named_address memory.old work.descriptor) work.length)) }
     ensures only { IfSome engine.old.work
         (λ work. ChangesOnly memory.old memory.new (area_at (work.descriptor + 8) 8)) }
+    // The invariant of an engine's value, for the proofs of callers.
     ensures before { IsReceiver engine.old }
     ensures after { IsReceiver engine.new }
 {
@@ -78,6 +80,7 @@ fn write_back(memory: &mut HostMemory, descriptor: u64, length: u16, ends: bool)
         → IsFinished memory.new descriptor ends (bytes_at memory.old (named_address memory.old descriptor) length) }
     ensures only { ChangesOnly memory.old memory.new (area_at (descriptor + 8) 8) }
 {
+    // Bytes 0 to 7, the address, aren't written.
     let finished = RxDesc {
         address: 0,
         length,
@@ -87,6 +90,8 @@ fn write_back(memory: &mut HostMemory, descriptor: u64, length: u16, ends: bool)
         special: 0,
     };
     let bytes = finished.to_bytes();
+    // For the prover: the address of the length fits into 64 bits. `store_in` returns true, because the descriptor is
+    // inside memory.
     prove!(descriptor < memory.size());
     store_in(
         memory,

@@ -14,7 +14,8 @@ use std::alloc::{AllocError, Global};
 use std::hash::{Hash, Hasher};
 use std::marker::Model;
 
-/// The maximum number of frames in the receive packet buffer: 48 kilobytes have room for 614 frames of 60 bytes.
+/// The maximum number of frames in the receive packet buffer: 48 kilobytes have room for 614 frames of 60 bytes, each
+/// of which occupies 80 bytes.
 pub const MOST_FRAMES: u16 = 614;
 
 /// The number of bytes that are allocated for the frames in the packet buffer. This number is more than 48 kilobytes,
@@ -103,7 +104,8 @@ impl RxEngine {
         self.buffer.len()
     }
 
-    /// Returns the frame of the packet buffer with this index, without a copy. The oldest frame has index 0.
+    /// Returns the frame of the packet buffer with this index, without a copy. The oldest frame has index 0, and
+    /// `index` must be below the number of frames.
     pub fn frame_at(&self, index: usize) -> &[u8]
         requires { index < length self.now.buffer }
         ensures frame { slice_get self.now.buffer index ≡ Some result.now }
@@ -134,14 +136,15 @@ impl RxEngine {
     pub fn feed<H: Hasher>(&self, hasher: &mut H)
         ensures { hasher.new ≡ fold H.write hasher.old (receiver_writes self.now) }
     {
+        // The field `occupied` isn't fed: the frames in the buffer determine it.
         self.stopped.hash(hasher);
         hasher.write_u16(self.moved);
         feed_work(self.work, hasher);
         self.buffer.feed(hasher);
     }
 
-    /// Appends a frame of a legal length to the packet buffer. A packet buffer of 49,152 bytes must have room for the
-    /// frame.
+    /// Appends a frame of a legal length to the packet buffer. With this frame, the frames in the packet buffer must
+    /// occupy at most 49,152 bytes.
     pub(crate) fn store(&mut self, frame: &[u8])
         requires room { occupied_by self.old.buffer + cost frame.now ≤ most_room }
         requires legal { IsLegal frame.now }
@@ -170,7 +173,8 @@ impl RxEngine {
     }
 
     /// Records that a piece of the oldest frame is in progress. If the frame ends in the piece, removes the frame from
-    /// the packet buffer. Otherwise adds the piece's length to the number of moved bytes.
+    /// the packet buffer. Otherwise adds the piece's length to the number of moved bytes. The piece must have 1 to
+    /// 1,518 bytes: the bytes that aren't moved yet if the frame ends in the piece, else fewer bytes.
     #[tactic(auto, using(crate::specs::RoomLaws::legal_oldest))]
     pub(crate) fn begin(&mut self, work: Work)
         requires least { 1 ≤ work.length }
@@ -231,8 +235,8 @@ fn feed_work<H: Hasher>(work: Option<Work>, hasher: &mut H)
     }
 }
 
-/// Returns the number of bytes of the packet buffer that a frame of this length occupies (our choice). This number is
-/// the length, rounded up to a multiple of 16, and 16 more.
+/// Returns the number of bytes of the packet buffer that a frame of this length, at most 65,535, occupies (our choice).
+/// This number is the length, rounded up to a multiple of 16, and 16 more.
 pub(crate) fn cost(length: usize) -> u32
     requires { length ≤ 65535 }
     ensures { result ≡ cost_of_length length }

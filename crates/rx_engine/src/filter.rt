@@ -186,8 +186,9 @@ impl Filter {
         self.accepts_address(&destination_of(frame)) && self.accepts_vlan(frame)
     }
 
-    /// Returns whether the filter accepts a destination address: it is a receive address, or UPE, MPE, BAM or the group
-    /// table accepts it.
+    /// Returns whether the filter accepts a destination address. A receive address is accepted. UPE accepts each
+    /// individual address, MPE each group address, and BAM the broadcast address. The group table accepts a group
+    /// address if the bit of its number is 1.
     fn accepts_address(&self, address: &[u8; 6]) -> bool
         ensures { IsTrue result ↔ AcceptsAddress (filter_of self.now) address.now }
     {
@@ -199,7 +200,7 @@ impl Filter {
         accepted || has_entry(&self.ral, &self.rah, address)
     }
 
-    /// Returns whether the filter accepts a group address by MPE, BAM or the group table.
+    /// Returns whether MPE, BAM or the group table accepts this group address.
     #[tactic(auto, unfolding(crate::specs::Registers::filter_of, crate::specs::Passing::AcceptsGroup))]
     fn accepts_group(&self, address: &[u8; 6]) -> bool
         ensures { IsTrue result ↔ AcceptsGroup (filter_of self.now) address.now }
@@ -209,7 +210,8 @@ impl Filter {
             || has_table_bit(&self.mta, hash_of(self.rctl.group_offset(), address))
     }
 
-    /// Returns whether RCTL.VFE is clear, the frame has no tag (its type isn't VET), or VFTA contains its VLAN number.
+    /// Returns whether the filter accepts the VLAN of a frame of at least 16 bytes: RCTL.VFE is clear, the frame has no
+    /// tag (its type isn't VET), or VFTA contains its VLAN number.
     #[tactic(auto, unfolding(crate::specs::Registers::filter_of, crate::specs::Passing::AcceptsVlan))]
     fn accepts_vlan(&self, frame: &[u8]) -> bool
         requires { 16 ≤ length frame.now }

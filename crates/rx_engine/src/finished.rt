@@ -56,7 +56,8 @@ fn shows_end(desc: &RxDesc) -> bool
     desc.status.contains(RxStatus::EOP)
 }
 
-/// Returns the descriptor in a slot of a ring. The whole ring must be inside memory, so the result is never `None`.
+/// Returns the descriptor in slot `place` of a ring. The whole ring must be inside memory, and `place` must be the
+/// index of a slot. The result is then never `None`.
 fn descriptor_in(memory: &HostMemory, ring: &Ring, place: u16) -> Option<RxDesc>
     requires ring { LiesWhole memory.now ring.now }
     requires place { place < count_of ring.now }
@@ -68,8 +69,9 @@ fn descriptor_in(memory: &HostMemory, ring: &Ring, place: u16) -> Option<RxDesc>
     Some(RxDesc::from_bytes(bytes.first_chunk()?))
 }
 
-/// Returns the bytes of the piece in a slot of a ring, and whether a frame ends in the piece. Returns `None` if and
-/// only if the slot isn't done.
+/// Returns the bytes of the piece in slot `place` of a ring, and whether a frame ends in the piece. Returns `None` if
+/// and only if the slot isn't done. The ring must be inside memory, and so must the piece if the slot is done. `place`
+/// must be the index of a slot.
 fn finished_piece<'a>(memory: &'a HostMemory, ring: &Ring, place: u16) -> Option<(&'a [u8], bool)>
     requires ring { LiesWhole memory.now ring.now }
     requires place { place < count_of ring.now }
@@ -94,7 +96,7 @@ fn finished_piece<'a>(memory: &'a HostMemory, ring: &Ring, place: u16) -> Option
 }
 
 /// Returns the bytes of the piece in progress, at the address in its descriptor. The descriptor and the piece must be
-/// inside memory, so the result is never `None`.
+/// inside memory. The result is then never `None`.
 pub fn bytes_in_progress<'a>(memory: &'a HostMemory, work: &Work) -> Option<&'a [u8]>
     requires descriptor { LiesIn memory.now work.now.descriptor 16 }
     requires piece { LiesIn memory.now (named_address memory.now work.now.descriptor) work.now.length }
@@ -131,10 +133,12 @@ pub fn append_finished(
     ensures room { vec_capacity frames.old ≤ vec_capacity frames.new }
 {
     let count = ring.count();
+    // If `oldest` isn't the index of a slot, no slot is outstanding.
     if u32::from(oldest) >= count {
         return;
     }
     let mut place = oldest;
+    // The number of outstanding slots that are still to be read.
     let mut left = (u32::from(ring.tail) + count - u32::from(oldest)) % count;
     while left > 0 {
         let Some((bytes, ends)) = finished_piece(memory, ring, place) else {

@@ -35,7 +35,7 @@ impl TableBit {
     }
 }
 
-/// Returns whether the bit at this place of a word is 1.
+/// Returns whether the bit at this place of a word is 1. The place is below 32.
 pub(crate) fn has_bit(word: u32, place: u32) -> bool
     requires { place < 32 }
     ensures { IsTrue result ↔ HasBit word place }

@@ -44,13 +44,14 @@ IsFaulty kind before words fault.Order =
     HasCount kind words × HasValues kind words × HasHostNames kind before.hosts words × (¬ HasOrder kind before.commands)
 IsFaulty kind before words _ = ⊥
 
--- the result of reading a line of this kind: Ok for a valid line, or its fault, or that memory was refused
+-- The result of reading a line of this kind: Ok for a valid line, or its fault, or that memory was refused. Nothing is
+-- stated about `after` if the line wasn't read.
 abbrev pub IsAnswerToLine : LineKind → SoFar → List Text → Result (Unit {0}) Stop → SoFar → Type 0
 IsAnswerToLine kind before words (Ok u) after = IsGood kind before words × (after ≡ after_line kind before words)
 IsAnswerToLine kind before words (Err stop) after = IfFault stop (IsFaulty kind before words)
 
 -- The result of adding an item to a host: Ok if the host has room, and then the item was added; Name if the host has no
--- room.
+-- room. Nothing is stated about the host (`after`) if the item wasn't added.
 abbrev pub IsGrowth : (Host → ℕ) → ℕ → (Host → Host) → Host → Result (Unit {0}) Fault → Host → Type 0
 IsGrowth held most change host (Ok u) after = (held host < most) × (after ≡ change host)
 IsGrowth held most change host (Err stopped) after = (stopped ≡ fault.Name) × (¬ (held host < most))

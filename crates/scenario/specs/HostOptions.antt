@@ -33,6 +33,7 @@ option_named word = value_in option_kinds word
 abbrev pub link_in : Text → Option Link
 link_in value = if bytes_eq value (codes "never") then Some link.Never else option_map link.After (number_in 10 16 value)
 
+-- this use if the value was read, else `Unread`
 abbrev pub use_or_unread : OptionKind → Option HostUse → HostUse
 use_or_unread kind (Some read) = read
 use_or_unread kind None = uses.Unread kind
@@ -46,6 +47,7 @@ use_of option.Rxa value = use_or_unread option.Rxa (option_map uses.Rxa (number_
 use_of option.Link value = use_or_unread option.Link (option_map uses.Link (link_in value))
 use_of option.Promiscuous value = uses.Promiscuous
 
+-- whether the option takes a value
 abbrev pub takes_value : OptionKind → Bool
 takes_value option.Promiscuous = false
 takes_value _ = true
@@ -55,6 +57,7 @@ abbrev pub lone_use : OptionKind → HostUse
 lone_use option.Promiscuous = uses.Promiscuous
 lone_use kind = uses.Lone kind
 
+-- whether a word that is this option, or no option (`None`), takes the next word as its value
 abbrev pub follows : Option OptionKind → Bool
 follows (Some kind) = takes_value kind
 follows None = false
@@ -85,6 +88,7 @@ is_same_option option.Link option.Link = true
 is_same_option option.Promiscuous option.Promiscuous = true
 is_same_option _ _ = false
 
+-- the option that is used; None if the word isn't an option
 abbrev pub kind_of_use : HostUse → Option OptionKind
 kind_of_use uses.Unknown = None
 kind_of_use (uses.Lone kind) = Some kind
@@ -104,10 +108,12 @@ is_some_of kind None = false
 abbrev pub is_use_of : OptionKind → HostUse → Bool
 is_use_of kind one = is_some_of kind (kind_of_use one)
 
+-- whether this isn't an option that lacks its value
 abbrev pub is_whole : HostUse → Bool
 is_whole (uses.Lone kind) = false
 is_whole _ = true
 
+-- whether the word is an option, and the option's value, if there is one, has the right form
 abbrev pub is_read : HostUse → Bool
 is_read uses.Unknown = false
 is_read (uses.Unread kind) = false
@@ -135,6 +141,7 @@ pub record AreRead (given : List HostUse) : Type 0 where
 abbrev pub defaults : HostOptions
 defaults = record { rx = 8; tx = 8; buffers = 16; rxa = 48; link = link.After 1; promiscuous = false }
 
+-- these options after one more use; only a use with a value that was read, or of `promiscuous`, changes an option
 abbrev pub with_use : HostOptions → HostUse → HostOptions
 with_use options (uses.Rx n) = record options { rx = n }
 with_use options (uses.Tx n) = record options { tx = n }

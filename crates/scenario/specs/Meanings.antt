@@ -110,12 +110,15 @@ HasValues line.Drain words = Unit {0}
 abbrev pub IsRoomAt : Text → (Host → ℕ) → ℕ → List Host → Type 0
 IsRoomAt name held most hosts = IsSomeAnd (find (has_name name) hosts) (λ host. held host < most)
 
+-- the number of a host's groups
 abbrev pub groups_held : Host → ℕ
 groups_held host = length host.config.groups.items
 
+-- the number of VLANs in a host's list; 0 if the host has no list
 abbrev pub vlans_held : Host → ℕ
 vlans_held host = length (vlans_of host.config.vlans)
 
+-- the number of a host's sockets
 abbrev pub sockets_held : Host → ℕ
 sockets_held host = length host.sockets
 
@@ -131,6 +134,7 @@ most_items (items.Group group) = 32
 most_items (items.Vlan vlan) = 32
 most_items (items.Socket socket) = 8
 
+-- the number that a text of decimal digits spells
 abbrev pub number_read : Text → ℕ
 number_read text = digits_value 10 text
 
@@ -144,6 +148,7 @@ item_in item.Socket text = items.Socket (unwrap_or (socket_in text) socket.All)
 abbrev pub IsRoomFor : Text → Item → List Host → Type 0
 IsRoomFor name one hosts = IsRoomAt name (items_held one) (most_items one) hosts
 
+-- There is a host of this name.
 abbrev pub NamesHost : Text → List Host → Type 0
 NamesHost name hosts = IsSome (host_place name hosts)
 
@@ -207,6 +212,7 @@ with_vlan vlan host =
 abbrev pub with_socket : SocketKind → Host → Host
 with_socket kind host = record host { sockets = host.sockets ++ kind ∷ [] }
 
+-- the host with this item appended to its groups, VLANs or sockets
 abbrev pub with_item : Item → Host → Host
 with_item (items.Group group) = with_group group
 with_item (items.Vlan vlan) = with_vlan vlan
@@ -217,6 +223,7 @@ abbrev pub changed_first : (Host → Bool) → (Host → Host) → List Host →
 changed_first test change [] = []
 changed_first test change (host ∷ hosts) = if test host then change host ∷ hosts else host ∷ changed_first test change hosts
 
+-- the lines read so far, with these hosts
 abbrev pub with_hosts : List Host → SoFar → SoFar
 with_hosts hosts before = record before { hosts = hosts }
 

@@ -66,7 +66,7 @@ command_of_event (event.Join host group ticks) = Joins host group ticks.now
 command_of_event (event.Leave host group ticks) = Leaves host group ticks.now
 command_of_event (event.Tick tick) = Ticks tick
 
--- the event of this call at a host, during which these ticks are played
+-- the command of this call at a host, during which these ticks are played
 abbrev pub said_of_call : Call → (host : ℕ) (ticks : List Tick) → Said
 said_of_call (call.Send frame) host ticks = Sends host frame.items ticks
 said_of_call (call.Recv socket) host ticks = Receives host socket ticks
@@ -105,6 +105,7 @@ so_far scenario = record {
 abbrev pub nothing_read : SoFar
 nothing_read = record { hosts = []; commands = []; traces = [] }
 
+-- whether the host has this name
 abbrev pub has_name : Text → Host → Bool
 has_name name host = bytes_eq host.name name
 

@@ -27,6 +27,7 @@ IsAddressText text = SpellsAddress text (address_in text)
 abbrev pub most_frame_digits : ℕ
 most_frame_digits = 8000
 
+-- the bytes of a result; no bytes for an error
 abbrev pub bytes_or_none : Result (List ℕ) FromHexError → List ℕ
 bytes_or_none (Ok bytes) = bytes
 bytes_or_none (Err fault) = []

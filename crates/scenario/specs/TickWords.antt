@@ -27,6 +27,7 @@ tick_kinds =
 unfoldable pub tick_kind_named : Text → Option TickKind
 tick_kind_named word = value_in tick_kinds word
 
+-- whether a byte is a colon
 abbrev pub is_colon : ℕ → Bool
 is_colon byte = byte == 0x3A
 
@@ -46,10 +47,12 @@ has_colon word = nat_lt (position_or_len is_colon word) (length word)
 abbrev pub is_tick : Text → Bool
 is_tick word = bytes_eq word (codes "go") || (has_colon word && is_some (tick_kind_named (tick_kind_word word)))
 
+-- the tick of this kind at a host
 abbrev pub tick_at : TickKind → ℕ → Tick
 tick_at (ticks.Step kind) host = tick.Step host kind
 tick_at ticks.Deliver host = tick.Deliver host
 
+-- the tick of a kind at a host, if both are known
 abbrev pub tick_if : Option TickKind → Option ℕ → Option Tick
 tick_if (Some kind) (Some host) = Some (tick_at kind host)
 tick_if (Some kind) None = None

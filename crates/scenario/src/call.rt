@@ -6,7 +6,7 @@ ghost use Rattle.scenario.specs.SoFar.{command_of_event, said_of_call};
 use network_plan::Event;
 use stations::Tick;
 
-/// A call of a host: what the host is asked to do, without the ticks that are played during the call.
+/// A call of a host, or a reset: what the host is asked to do, without the ticks that are played during the call.
 #[derive(Drop)]
 pub enum Call {
     /// To send this frame.

@@ -1,4 +1,6 @@
-// Reads the lines of commands.
+// Reads the lines of commands. Each `read_` function appends the line's command to the scenario. Otherwise it returns
+// `Memory`, or the first of the faults `Count`, `Value` and `Name`; then the scenario may have changed. Words are
+// numbered from 0, and word 0 names the kind of the line.
 
 ghost use Rattle.std.specs.Prelude.{◌≡◌, IfErr, IfOk, OnOk, length, true};
 ghost use Rattle.std.specs.Option.{SomeIff};
@@ -61,8 +63,8 @@ fn ticks_of(alloc: Global, hosts: &[HostPlan], words: &[&str]) -> Result<Vec<Tic
 ///
 /// # Errors
 ///
-/// [`Value`](Fault::Value) if a word doesn't spell a tick, else [`Name`](Fault::Name) if a host isn't known. Or
-/// [`Memory`](Stop::Memory) if memory is refused.
+/// [`Value`](Fault::Value) if a word of `ticks` doesn't spell a tick, else [`Name`](Fault::Name) if the host `name` or
+/// the host of a tick isn't known. Or [`Memory`](Stop::Memory) if memory is refused.
 fn call_of(
     alloc: Global,
     hosts: &[HostPlan],
@@ -101,7 +103,7 @@ fn size_of_call(kind: CallKind) -> usize
     }
 }
 
-/// Returns the call that these words spell.
+/// Returns the call of this kind that these words spell. The number of words must be that of [`size_of_call`].
 ///
 /// # Errors
 ///
@@ -119,6 +121,7 @@ fn asked_of(alloc: Global, kind: CallKind, call: &[&str]) -> Result<Call, Stop>
             Err(stop) => Err(stop),
         },
         CallKind::Recv => match number_of(word_at(call, 2)) {
+            // `usize` has the size of `u64`, so the cast doesn't change `socket`.
             Some(socket) => Ok(Call::Recv(socket as usize)),
             None => Err(Stop::Fault(Fault::Value)),
         },
@@ -196,6 +199,7 @@ fn count_of(text: &str) -> Option<u32>
     if count > MOST_EVENTS {
         return None;
     }
+    // `count` is at most 1,000,000, so the cast doesn't change it.
     Some(count as u32)
 }
 

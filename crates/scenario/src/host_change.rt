@@ -27,7 +27,7 @@ pub(crate) enum Item {
     Socket(SocketKind),
 }
 
-/// Appends the host of a `host` line.
+/// Appends the host of a `host` line. The host has no groups, no list of VLANs and no sockets yet.
 ///
 /// # Errors
 ///
@@ -81,6 +81,7 @@ fn push_group(host: &mut HostPlan, group: [u8; 6]) -> Result<(), Fault>
 fn push_vlan(host: &mut HostPlan, vlan: u16) -> Result<(), Fault>
     ensures { Gains (Vlan vlan) (host_of_plan host.old) result (host_of_plan host.new) }
 {
+    // The first VLAN of a host begins the host's list.
     let mut vlans = host.config.vlans.take().unwrap_or(ArrayVec::new());
     if vlans.is_full() {
         return Err(Fault::Name);
@@ -101,7 +102,8 @@ fn push_socket(host: &mut HostPlan, kind: SocketKind) -> Result<(), Fault>
     Ok(())
 }
 
-/// Adds an item to a host. Fails with [`Name`](Fault::Name) if the host has no room for the item.
+/// Adds an item to a host. Fails with [`Name`](Fault::Name) if the host has no room for the item; then the host may
+/// have lost its list of VLANs.
 fn push_item(host: &mut HostPlan, item: Item) -> Result<(), Fault>
     ensures { Gains item (host_of_plan host.old) result (host_of_plan host.new) }
 {
@@ -112,8 +114,8 @@ fn push_item(host: &mut HostPlan, item: Item) -> Result<(), Fault>
     }
 }
 
-/// Adds an item to the first host with this name. Fails with [`Name`](Fault::Name) if there is no such host, or the
-/// host has no room for the item.
+/// Adds an item to the first host with this name. Fails with [`Name`](Fault::Name) if there is no such host, or if the
+/// host has no room for the item; then the host may have lost its list of VLANs.
 #[tactic(auto, using(crate::proofs::Changes::no_room))]
 pub(crate) fn add_item(hosts: &mut [HostPlan], name: &str, item: Item) -> Result<(), Fault>
     ensures { IsChange name.now (meanings.items_held item) (meanings.most_items item) (meanings.with_item item)

@@ -50,7 +50,7 @@ pub(crate) enum HostUse {
     Promiscuous,
 }
 
-/// The values of the options of a `host` line.
+/// The values of the options of a `host` line; [`OptionKind`] explains each option.
 #[derive(Clone, Copy)]
 pub(crate) struct HostOptions {
     pub(crate) rx: u16,
@@ -72,7 +72,8 @@ const DEFAULTS: HostOptions = HostOptions {
 };
 
 impl OptionKind {
-    /// Returns the use of this option with a value; `Unread` if the value doesn't have the right form.
+    /// Returns the use of this option with a value; `Unread` if the value doesn't have the right form. `promiscuous`
+    /// takes no value, so `value` doesn't matter for it.
     fn with_value(self, value: &str) -> HostUse
         ensures { result ≡ options.use_of self value.now }
     {
@@ -200,7 +201,7 @@ fn option_of(word: &str) -> Option<OptionKind>
     value_of(&OPTION_KINDS, word)
 }
 
-/// Returns the use that begins with `word`, and the number of words of `behind` that belong to this use.
+/// Returns the use that begins with `word`, and how many of the later words `behind` belong to this use: 0 or 1.
 fn first_use(word: &str, behind: &[&str]) -> (HostUse, usize)
     ensures first { options.uses_in (word.now ∷ texts behind.now)
         ≡ result.0 ∷ options.uses_in (texts (drop result.1 behind.now)) }

@@ -17,7 +17,8 @@ use text::{word_at, words_in};
 /// The maximum number of bytes of a line (our choice).
 const MOST_LINE_BYTES: usize = 8192;
 
-/// Reads the words of a line of this kind, and adds its host, item or command to the scenario.
+/// Reads the words of a line of this kind, and adds its host, item or command to the scenario. Otherwise returns the
+/// first fault of the line, or that memory was refused; then the scenario may have changed.
 fn read_kind(
     alloc: Global,
     scenario: &mut Scenario,
@@ -60,7 +61,8 @@ fn read_words(alloc: Global, scenario: &mut Scenario, words: &[&str]) -> Result<
     }
 }
 
-/// Reads a line, unless the line is skipped, and adds its host, item or command to the scenario.
+/// Reads a line, and adds its host, item or command to the scenario. A skipped line adds nothing, but each line must
+/// have at most 8,192 bytes and be UTF-8. After an error, the scenario may have changed.
 pub(crate) fn read_line(alloc: Global, scenario: &mut Scenario, line: &[u8]) -> Result<(), Stop>
     ensures { IsLineAnswer (so_far scenario.old) line.now result (so_far scenario.new) }
 {

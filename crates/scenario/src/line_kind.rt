@@ -70,7 +70,7 @@ const KINDS: [(&str, LineKind); 14] = [
     ("drain", LineKind::Drain),
 ];
 
-/// Returns the kind of the lines that begin with a word; `None` if no kind does.
+/// Returns the kind of the lines that begin with this word; `None` if no kind of line begins with it.
 #[tactic(auto, unfolding(crate::specs::Kinds::line_kind_named))]
 pub(crate) fn kind_of(word: &str) -> Option<LineKind>
     ensures { result ≡ line_kind_named word.now }

@@ -45,8 +45,9 @@ fn without_return(line: &[u8]) -> &[u8]
     kept
 }
 
-/// Returns the first line of a text that isn't empty, without its line feed and the carriage return before the line
-/// feed, if the line has them. Also returns the number of bytes of the line with these characters.
+/// Returns the first line of a text, without its line feed and a carriage return before the line feed. Also returns the
+/// number of bytes up to and including the line feed. A text without a line feed is one line, and all its bytes are
+/// returned. The text must not be empty.
 fn first_line(text: &[u8]) -> (&[u8], usize)
     requires { 0 < length text.now }
     ensures first { lines text.now ≡ result.0.now ∷ lines (drop result.1 text.now) }
@@ -75,8 +76,8 @@ fn empty_scenario(alloc: Global) -> Scenario
     }
 }
 
-/// Reads the line with this number, and stores the number for the line's command, if the line has a command. The
-/// numbers for the commands of earlier lines must have been stored.
+/// Reads the line with this number. If the line has a command, also stores the number for this command; the numbers for
+/// earlier commands have been stored before. The contract states nothing about these numbers.
 fn read_numbered(
     alloc: Global,
     scenario: &mut Scenario,

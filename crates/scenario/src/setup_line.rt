@@ -1,4 +1,6 @@
-// Reads the lines that set up hosts, and their groups, VLANs and sockets.
+// Reads the lines that set up hosts, and their groups, VLANs and sockets. Each `read_` function adds the line's host or
+// item to the scenario. Otherwise it returns `Memory`, or the first of the faults `Count`, `Value`, `Name` and `Order`;
+// then the scenario may have changed. Words are numbered from 0, and word 0 names the kind of the line.
 
 ghost use Rattle.std.specs.Prelude.{◌≡◌, ◌≤◌, IfErr, IfOk, length};
 ghost use Rattle.std.specs.Option.{SomeIff};
@@ -25,7 +27,8 @@ const HOST_WORDS: usize = 4;
 /// The number of words of a `group`, a `vlan` and a `socket` line.
 const ITEM_WORDS: usize = 3;
 
-/// Returns the words of a `host` line after the first four: the words of its options.
+/// Returns the words of a `host` line after the first four: the words of its options. The line must have at least four
+/// words.
 fn option_words<'a, 'b>(words: &'b [&'a str]) -> &'b [&'a str]
     requires { HOST_WORDS ≤ length words.now }
     ensures { texts result.now ≡ option_words (texts words.entry.now) }
@@ -34,8 +37,9 @@ fn option_words<'a, 'b>(words: &'b [&'a str]) -> &'b [&'a str]
     options
 }
 
-/// Returns the address and the options of a `host` line, whose words spell these uses of options. Checks that the name
-/// of the new host is free, and that no command comes before this line.
+/// Returns the address and the options of a `host` line with at least four words. `uses` must be the uses of options
+/// that the words after the first four spell. Checks that no host has the name of the new host, and that no command
+/// comes before this line.
 ///
 /// # Errors
 ///
@@ -68,7 +72,7 @@ fn values_in(
     Ok((address, options_of(uses)))
 }
 
-/// Returns the address and the options of a `host` line. Checks that the name of the new host is free, and that no
+/// Returns the address and the options of a `host` line. Checks that no host has the name of the new host, and that no
 /// command comes before this line.
 ///
 /// # Errors
@@ -133,6 +137,7 @@ pub(crate) fn read_item(scenario: &mut Scenario, kind: ItemKind, words: &[&str])
     if let Err(fault) = add_item(scenario.plan.hosts.as_mut_slice(), word_at(words, 1), item) {
         return Err(Stop::Fault(fault));
     }
+    // `Order` is the last fault in the order, so it is checked after the item was added.
     if !scenario.commands.is_empty() {
         return Err(Stop::Fault(Fault::Order));
     }

@@ -20,8 +20,10 @@ const MOST_FRAME_DIGITS: usize = 8000;
 /// The number of hexadecimal digits of a socket's EtherType (our choice).
 const ETHER_TYPE_DIGITS: usize = 4;
 
+/// The radix of decimal numbers.
 const DECIMAL: u32 = 10;
 
+/// The radix of hexadecimal numbers.
 const HEXADECIMAL: u32 = 16;
 
 /// Returns the number below 2^64 that a text of decimal digits spells; `None` for any other text.
@@ -56,7 +58,7 @@ fn ether_type_of(text: &str) -> Option<u16>
 }
 
 /// Returns which frames a socket takes: `all` spells [`All`](SocketKind::All), and four hexadecimal digits spell an
-/// EtherType. `None` for any other text.
+/// EtherType. Returns `None` for any other text.
 pub(crate) fn socket_of(text: &str) -> Option<SocketKind>
     ensures { result ≡ socket_in text.now }
 {

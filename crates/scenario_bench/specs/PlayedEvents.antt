@@ -42,7 +42,7 @@ pub record HasBegunPlay (plans : List HostPlan) (play : Play) : Type 0 where
   pub hosts : play.record.hosts.items ≡ replicate (length plans) no_tally
   pub returned : play.record.returned ≡ []
 
--- No network was made, or memory was refused.
+-- The error is `Plan`, with the reason why no network was made, or `Memory`.
 abbrev pub StopsAtPlan : List HostPlan → BenchError → Type 0
 StopsAtPlan plans (errors.Plan error) = IsLanAnswer plans (Err error)
 StopsAtPlan plans (errors.Run stopped) = ⊥

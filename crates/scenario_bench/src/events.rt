@@ -71,8 +71,8 @@ fn push_moves(host: usize, pieces: usize, events: &mut Vec<Event<'_>>) -> Result
     Ok(())
 }
 
-/// Appends the events that deliver a frame to a host, and move the frame to memory in this number of pieces. Then
-/// appends an interrupt, and a recv of each of the host's sockets, in order.
+/// Appends the events by which a frame arrives at a host: its delivery, and its moves to memory in this number of
+/// pieces. Then appends an interrupt, and a recv from each of the host's sockets, in order.
 fn push_arrival(
     pieces: usize,
     host: usize,
@@ -150,7 +150,8 @@ impl EventsAfterSend {
         }
     }
 
-    /// Makes the events after the send of a frame that arrives in this number of pieces.
+    /// Makes the events after the send of a frame that arrives in this number of pieces. If a list is made, it must be
+    /// for these plans and this sender. If memory is refused, no list is made.
     pub(crate) fn make(
         &mut self,
         plans: &[HostPlan],
@@ -198,7 +199,8 @@ pub(crate) struct Drawn {
 }
 
 impl Drawn {
-    /// Returns what a random word draws. The word's low three bits choose the kind, the other bits the host.
+    /// Returns what a random word draws. The word's low three bits choose the kind. The other bits, modulo the number
+    /// of hosts, choose the host. There must be at least one host.
     pub(crate) fn new(plans: &[HostPlan], word: u32) -> Drawn
         requires { 0 < length plans.now }
         ensures { lists.event_of_kind result.kind result.host result.frame result.ticks
@@ -217,7 +219,7 @@ impl Drawn {
         }
     }
 
-    /// Returns the event. Each kind from 7 on is the last kind, a send.
+    /// Returns the event. Each kind from 7 on is a send (`new` draws kinds from 0 to 7).
     pub(crate) fn event(&self) -> Event<'_>
         ensures { command_of_event result
             ≡ lists.event_of_kind self.now.kind self.now.host self.now.frame self.now.ticks }

@@ -76,7 +76,7 @@ fn asked_after(asked: Refusals, command: &Command, before: Refusals, after: Refu
 impl Play {
     /// Initializes the hosts of a plan, with an empty record. If `wires`, the number of traces of wires to write, isn't
     /// 0, the frames that adapters put are recorded later. If `events` is true, a line is recorded for each event and
-    /// drain.
+    /// drain. Fails with `Plan` if the plan is refused, and with `Memory` if memory is refused at another place.
     fn new(alloc: Global, plan: &Plan, wires: usize, events: bool) -> Result<Play, BenchError>
         ensures ok { IfOk result (HasBegunPlay plan.now.hosts.items) }
         ensures puts { IfOk result (λ play. IsNewRecord wires play.record.puts) }
@@ -116,7 +116,8 @@ impl Play {
         }
     }
 
-    /// Makes room for the frames of a drain, drains a host, and records the frames that the host returned.
+    /// Makes room for the frames of a drain, drains a host, and records the frames that the host returned. The number
+    /// of steps of the drain is dropped. If memory is refused before or after the drain, the error is `Memory`.
     #[tactic(auto, using(crate::proofs::PlayedEvents::drained))]
     fn drain(&mut self, host: usize) -> Result<(), BenchError>
         ensures ok { OnOk result (HasPlayed (Drains host ∷ []) self.old self.new) }
@@ -138,7 +139,8 @@ impl Play {
     }
 
     /// Runs the events of `feed` for one frame from a host: the send, the steps that put the frame on the host's wire,
-    /// and the events by which the frame arrives at the other hosts on this wire.
+    /// and the events by which the frame arrives at the other hosts on this wire. A list that `behind` contains from an
+    /// earlier frame must be for these plans and this host.
     fn feed_frame(
         &mut self,
         behind: &mut EventsAfterSend,
@@ -181,7 +183,8 @@ impl Play {
         Ok(())
     }
 
-    /// Draws `count` random events one at a time, and runs each of them. `start` is the generator's seed.
+    /// Draws `count` random events one at a time, and runs each of them. `start` is the generator's seed. There must be
+    /// at least one host.
     #[tactic(auto, using(crate::proofs::PlayedEvents::all_drawn, crate::proofs::PlayedEvents::none_drawn))]
     fn draw(&mut self, plans: &[HostPlan], count: u32, start: u64) -> Result<(), BenchError>
         requires { 0 < length plans.now }
@@ -200,7 +203,8 @@ impl Play {
         Ok(())
     }
 
-    /// Runs the events of a command, or its drain. Runs no event for a `feed` if its trace isn't in `traces`.
+    /// Runs the events of a command, or its drain. Runs no event for a `feed` if its trace isn't in `traces`. There
+    /// must be at least one host.
     fn command(
         &mut self,
         alloc: Global,
@@ -232,7 +236,7 @@ impl Play {
 
     /// Runs the events and drains of these commands, in order. `lines` contains the line number of each command, for
     /// the lines that are recorded of its events and drains. A command for which `lines` is too short has the line
-    /// number 0.
+    /// number 0. There must be at least one host.
     #[tactic(auto, using(crate::proofs::PlayedEvents::none_fed, crate::proofs::PlayedEvents::all_ran))]
     fn commands(
         &mut self,
@@ -260,7 +264,8 @@ impl Play {
         Ok(())
     }
 
-    /// Returns the summary of a host.
+    /// Returns the summary of host `number`, whose plan is `plan`. The record must contain its counts, and the network
+    /// must contain the host.
     fn host_summary(
         &self,
         alloc: Global,
@@ -289,7 +294,8 @@ impl Play {
         })
     }
 
-    /// Returns the summaries of all hosts of a plan, in order.
+    /// Returns the summaries of all hosts of a plan, in order. The record must contain their counts, and the network
+    /// must contain the hosts.
     #[tactic(auto, using(crate::proofs::Benching::none_told))]
     fn host_summaries(
         &self,
@@ -308,7 +314,7 @@ impl Play {
     }
 
     /// Returns the summary of the run, with these summaries of its hosts. The lines of events are moved out of the
-    /// record.
+    /// record, which then contains no lines.
     fn summary(&mut self, hosts: Vec<HostSummary>) -> Summary
         ensures hosts { result.hosts ≡ hosts }
         ensures refusals { result.refusals ≡ self.old.record.log.refusals }
@@ -323,7 +329,8 @@ impl Play {
         }
     }
 
-    /// Plays the commands of a scenario in order. Returns the summaries of the hosts.
+    /// Plays the commands of a scenario in order, and returns the summaries of the hosts. The network must be that of
+    /// the plan, and nothing must be recorded yet.
     fn scenario(
         &mut self,
         alloc: Global,
@@ -343,7 +350,9 @@ impl Play {
         Ok(hosts)
     }
 
-    /// Writes the traces of sockets, and then the traces of wires, through a writer.
+    /// Writes the traces of sockets, and then the traces of wires, through a writer. There must be one sink for each
+    /// socket, and at most one for each wire. If there is a sink for a wire, the frames that adapters put must be
+    /// recorded.
     fn write_through<W: Sink>(
         &self,
         of_sockets: &Traces<'_>,
@@ -375,7 +384,7 @@ impl Play {
     }
 
     /// Writes to each sink the frames of its socket, and then to each of `wire_sinks` the frames that were put on its
-    /// wire.
+    /// wire. The preconditions are those of `write_through`. If memory is refused, nothing was written.
     fn write<W: Sink>(
         &self,
         alloc: Global,
@@ -409,6 +418,7 @@ impl Play {
     }
 
     /// Plays the commands of a scenario on the network of its plan, and then writes the traces. Returns the summary.
+    /// `new` must have made `self` for this plan and this number of `wire_sinks`, and nothing must be recorded yet.
     fn bench<W: Sink>(
         &mut self,
         alloc: Global,

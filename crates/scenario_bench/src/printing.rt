@@ -18,7 +18,7 @@ const LONGEST_LINE: usize = 700;
 /// The part of a host's line after its name.
 type Line = ArrayVec<u8, LONGEST_LINE>;
 
-/// Appends ` exact` if the number of missed frames is exact, else ` atleast`.
+/// Appends ` exact` if the number of missed frames is exact, else ` atleast`. The line must have room for 8 bytes.
 fn push_exact(line: &mut Line, exact: bool)
     requires room { length line.old.items + 8 ≤ 700 }
     ensures text { line.new.items ≡ line.old.items ++ exact_word exact }
@@ -29,7 +29,7 @@ fn push_exact(line: &mut Line, exact: bool)
 }
 
 /// Appends the numbers of frames that resets dropped, and that arrived while the receive side was disabled. Appends
-/// nothing if there was no reset.
+/// nothing if there was no reset. The line must have room for 180 bytes: three fields of at most 60 bytes.
 fn push_resets(line: &mut Line, given_up: Option<GivenUp>)
     requires room { length line.old.items + 180 ≤ 700 }
     ensures text { line.new.items ≡ line.old.items ++ resets_text given_up }
@@ -74,8 +74,8 @@ fn print_host<W: Sink>(host: &HostSummary, sink: &mut W) -> Result<(), WriteErro
 
 /// Writes the program's lines of a run to a sink, one line for each host: `NAME accepted A put P reached R stored S
 /// missed M exact given G unclaimed U`. `atleast` replaces `exact` if more frames may have been missed. The line of a
-/// host that was reset has ` givenup T R off O` at its end. Each line ends with a line feed. The call allocates no
-/// memory.
+/// host that was reset has ` givenup T R off O` at its end ([`GivenUp`]: `sending`, `holding`, `off`). Each line ends
+/// with a line feed. The call allocates no memory.
 ///
 /// # Errors
 ///

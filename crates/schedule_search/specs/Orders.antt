@@ -13,6 +13,8 @@ below all cost left possible run number zero = []
 below all cost left possible run number (suc count) =
     all (left_after cost left possible number) (number ∷ run) ++ below all cost left possible run (number + 1) count
 
+-- The schedules that begin with a run, by the place after the run. Without a place, the run has ended, and is the only schedule. `all`
+-- returns the schedules that begin with a longer run.
 abbrev pub schedules_at : (ℕ → List ℕ → List (List ℕ)) → ℕ → ℕ → List ℕ → Option Place → List (List ℕ)
 schedules_at all cost left run None = run ∷ []
 schedules_at all cost left run (Some place) =
@@ -37,11 +39,12 @@ pub record Reached : Type 0 where
   pub path : List Choice
   pub room : ℕ
 
--- The whole path of a run that begins with a path, and makes the first choice at each later place, up to `room` later places.
+-- a path if its run has ended; otherwise `run` of the path with the first choice at the next place
 abbrev pub ended_at : (List Choice → Reached) → ℕ → ℕ → ℕ → List Choice → Option Place → Reached
 ended_at run cost depth room path None = record { path = path; room = room }
 ended_at run cost depth room path (Some place) = run (first_choice cost (left_of cost depth path) place ∷ path)
 
+-- the whole path of a run that begins with a path, and makes the first choice at each later place, up to `room` later places
 abbrev pub ended_search : Test → ℕ → ℕ → ℕ → List Choice → Reached
 ended_search test cost depth zero path = record { path = path; room = 0 }
 ended_search test cost depth (suc room) path =
@@ -61,6 +64,7 @@ path_after (choice ∷ path) room =
     if nat_lt choice.taken choice.place.possible then Some (record { path = next_choice choice ∷ path; room = room })
     else path_after path (suc room)
 
+-- the path without the number of later places
 abbrev pub path_in : Reached → List Choice
 path_in reached = reached.path
 
@@ -68,16 +72,20 @@ path_in reached = reached.path
 abbrev pub from_run : Test → ℕ → Reached → List (List ℕ)
 from_run test cost reached = run_of reached.path ∷ rest test cost reached.path reached.room
 
+-- the schedules from the run of the next path on, if there is a next path
 abbrev pub from_next : Test → ℕ → ℕ → Option Reached → List (List ℕ)
 from_next test cost depth None = []
 from_next test cost depth (Some reached) = from_run test cost (ended_search test cost depth reached.room reached.path)
 
 -- The first run, and then the run of each next path until there is none, are the list `schedules`, in order.
 pub record AllAreTried : Type 0 where
+  -- the list begins with the first run
   pub begins : (test : Test) (cost depth room : ℕ)
       → schedules test cost room depth [] ≡ from_run test cost (ended_search test cost depth room [])
+  -- the schedules after a path begin with the run of the next path
   pub goes_on : (test : Test) (cost depth : ℕ) (path : List Choice) (room : ℕ)
       → rest test cost path room ≡ from_next test cost depth (path_after path room)
+  -- `next_path`, which `back` computes, is the next path in this list
   pub by_back : (path : List Choice) (room : ℕ) → next_path path ≡ option_map path_in (path_after path room)
 
 -- The list of schedules.
@@ -99,9 +107,12 @@ AreDifferent (run ∷ runs) = All (λ other. run ≢ other) runs × AreDifferent
 -- The list of schedules contains each schedule with at most `room` later places, otherwise only the first `room` places of longer runs, and
 -- no run twice.
 pub record ListsAll : Type 0 where
+  -- each schedule with at most `room` later places
   pub each : (test : Test) (cost room left : ℕ) (run later : List ℕ) → IsSchedule test cost left run later
       → length later ≤ room → Contains (schedules test cost room left run) (played run later)
+  -- only schedules, and the first `room` places of longer runs
   pub only : (test : Test) (cost room left : ℕ) (run : List ℕ)
       → All (λ schedule. (later : List ℕ) × (IsWithin test cost room left run later × (schedule ≡ played run later)))
       (schedules test cost room left run)
+  -- no run twice
   pub once : (test : Test) (cost room left : ℕ) (run : List ℕ) → AreDifferent (schedules test cost room left run)

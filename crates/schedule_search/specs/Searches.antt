@@ -56,9 +56,13 @@ AreTrueEntries test cost known = All (IsTrueEntry test cost) known
 
 -- The invariant of a search between two calls, as long as no schedule has failed.
 pub record IsSearch (test : Test) (search : Search) (choices : List Choice) (table : List Known) : Type 0 where
+  -- the path is in the slice
   pub fits : search.count ≤ length choices
+  -- all schedules before those that begin with the path pass
   pub tried : AreTried test search.cost search.depth (path_of search.count choices)
+  -- all entries of the table are true
   pub known : AreTrueEntries test search.cost table
+  -- no schedule has failed
   pub none_failed : search.failing ≡ 0
 
 -- the run of the path of a search
@@ -70,10 +74,11 @@ abbrev pub ContinuationsPass : Test → Search → List Choice → Type 0
 ContinuationsPass test search choices =
     AllPass test search.cost (left_of search.cost search.depth (path_of search.count choices)) (run_in search choices)
 
+-- the entry with this key and this maximum cost
 abbrev pub known_of : Key → ℕ → Known
 known_of key left = record { key = key; left = left }
 
--- An entry states that from the known state with this key, each schedule whose deviations cost at most `left` passes.
+-- An entry states that each schedule from the state with this key passes if its deviations cost at most `left`. The key's `one` isn't 0.
 abbrev pub IsKnownBy : Known → Key → ℕ → Type 0
 IsKnownBy entry key left = (0 < key.one) × (entry.key ≡ key) × (left ≤ entry.left)
 

@@ -28,7 +28,7 @@ pub const REMOVED: u32 = 1;
 pub const ENDED: u32 = 2;
 
 /// Begins a search of the schedules whose deviations cost at most `depth` in total, and `cost` each. Clears the table
-/// of known states. The path is then empty.
+/// of known states. The path is then empty, whatever `path` contains.
 #[unsafe(no_mangle)]
 pub extern "C" fn schedule_search_begin(
     search: &mut Search,
@@ -112,7 +112,8 @@ pub extern "C" fn schedule_search_back(
     }
 }
 
-/// Notes that the run of the path has failed. So from the place of each of its choices, a schedule fails.
+/// Notes that the run of the path has failed. So a schedule from the place of each choice of the path has failed, and
+/// `schedule_search_back` doesn't note the states of these places as known.
 #[unsafe(no_mangle)]
 pub extern "C" fn schedule_search_fail(search: &mut Search)
     ensures { search.new ≡ record search.old { failing = search.old.count } }
@@ -132,7 +133,8 @@ pub extern "C" fn schedule_search_find(known: &[Known], key: &Key) -> usize
     crate::find(known, *key)
 }
 
-/// Notes the entries of the table `from` in the table `known`, as far as there is room. Skips empty entries.
+/// Notes the entries of the table `from` in the table `known`, as far as there is room. Skips empty entries. If both
+/// tables contain only true entries, so does the new table.
 #[unsafe(no_mangle)]
 pub extern "C" fn schedule_search_grow(from: &[Known], known: &mut [Known])
     ensures { (test : Test) (cost : ℕ) → AreTrueEntries test cost from.now → AreTrueEntries test cost known.old

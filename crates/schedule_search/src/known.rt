@@ -18,6 +18,7 @@ pub fn find(known: &[Known], key: Key) -> usize
     if size == 0 {
         return 0;
     }
+    // The remainder is below `size`, so the cast doesn't change it.
     let mut at = (key.one % size as u64) as usize;
     for _ in 0..size {
         let there = known[at].key;
@@ -29,16 +30,18 @@ pub fn find(known: &[Known], key: Key) -> usize
     size
 }
 
-/// Returns whether an entry states that from the state with this key, each schedule whose deviations cost at most
-/// `left` passes. Returns `false` if `key.one` is 0. The contract states only what `true` means.
+/// Returns whether an entry states this: if the deviations of a schedule from the state with this key cost at most
+/// `left`, the schedule passes. An entry states nothing of a key whose `one` is 0. The contract states only what `true`
+/// means.
 pub(crate) fn is_known(entry: Known, key: Key, left: u32) -> bool
     ensures { result ≡ true → IsKnownBy entry key left }
 {
     key.one > 0 && entry.key.one == key.one && entry.key.two == key.two && left <= entry.left
 }
 
-/// Notes that from the state with this key, each schedule whose deviations cost at most `left` passes. The note
-/// replaces the entry at the index that [`find`] returns. Does nothing if there is no such entry.
+/// Notes that each schedule from the state with this key passes if its deviations cost at most `left`. The note
+/// replaces the entry at the index that [`find`] returns. Does nothing if there is no such entry. If `key.one` is 0,
+/// the entry remains empty.
 pub(crate) fn note(known: &mut [Known], key: Key, left: u32)
     ensures { HasOneMore known.old (known_of key left) known.new }
 {
@@ -48,7 +51,8 @@ pub(crate) fn note(known: &mut [Known], key: Key, left: u32)
     }
 }
 
-/// Notes the entries of the table `from` in the table `known`, as far as there is room. Skips empty entries.
+/// Notes the entries of the table `from` in the table `known`, as far as there is room. Skips empty entries. If both
+/// tables contain only true entries, so does the new table.
 pub fn grow(from: &[Known], known: &mut [Known])
     ensures { (test : Test) (cost : ℕ) → AreTrueEntries test cost from.now → AreTrueEntries test cost known.old
         → AreTrueEntries test cost known.new }

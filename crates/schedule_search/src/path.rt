@@ -33,7 +33,8 @@ pub struct Choice {
     pub taken: u32,
 }
 
-/// A state from which each schedule whose deviations cost at most `left` passes. If `key.one` is 0, the entry is empty.
+/// An entry: each schedule from the state with this key passes if its deviations cost at most `left`. If `key.one` is
+/// 0, the entry is empty.
 #[repr(C)]
 #[derive(Clone, Copy)]
 pub struct Known {
@@ -41,7 +42,8 @@ pub struct Known {
     pub left: u32,
 }
 
-/// Returns the maximum total cost of the deviations after a choice.
+/// Returns the maximum total cost of the deviations after a choice: `choice.left`, minus `cost` if the choice is a
+/// deviation, but not below 0.
 pub(crate) fn after(cost: u32, choice: Choice) -> u32
     ensures { result ≡ left_after cost choice.left choice.place.possible choice.taken }
 {
@@ -54,7 +56,8 @@ pub(crate) fn after(cost: u32, choice: Choice) -> u32
     choice.left - cost
 }
 
-/// Returns the maximum total cost of the deviations after the first `count` choices of a path.
+/// Returns the maximum total cost of the deviations after the first `count` choices of a path. The path must have at
+/// least `count` choices.
 pub(crate) fn left(depth: u32, cost: u32, path: &[Choice], count: usize) -> u32
     requires { count ≤ length path.now }
     ensures { result ≡ left_of cost depth (path_of count path.now) }
@@ -76,7 +79,7 @@ pub(crate) fn first(cost: u32, left: u32, place: Place) -> Choice
     }
 }
 
-/// Returns the choice of the next number at the same place.
+/// Returns the choice of the next number at the same place. The argument must be the choice of a deviation.
 pub(crate) fn next(choice: Choice) -> Choice
     requires { choice.taken < choice.place.possible }
     ensures { result ≡ next_choice choice }

@@ -100,8 +100,8 @@ pub fn meet(search: &mut Search, path: &mut [Choice], known: &[Known], place: Pl
 
 /// Makes a step back, after all schedules that begin with the path were tried. Returns what the caller does next.
 ///
-/// The newest choice takes its next number, if there is one. Otherwise, this choice is removed; the state of its place
-/// is noted as known, unless a schedule from this place has failed.
+/// The newest choice takes its next number, if there is one. Otherwise, this choice is removed, and the state of its
+/// place is noted as known, unless a schedule from this place has failed.
 pub fn back(search: &mut Search, path: &mut [Choice], known: &mut [Known]) -> Step
     ensures search { (test : Test) → IsSearch test search.old path.old known.old → EqualKeys test
         → ContinuationsPass test search.old path.old → IsSearch test search.new path.new known.new }
@@ -123,6 +123,7 @@ pub fn back(search: &mut Search, path: &mut [Choice], known: &mut [Known]) -> St
         → (known.new ≡ known.old) × (search.new.failing ≡ search.new.count) }
     ensures kept { (search.new.depth ≡ search.old.depth) × (search.new.cost ≡ search.old.cost) }
 {
+    // The second condition is true only if the path isn't the one that `meet` extended.
     if search.count == 0 || search.count > path.len() {
         return Step::Ended;
     }
@@ -141,7 +142,8 @@ pub fn back(search: &mut Search, path: &mut [Choice], known: &mut [Known]) -> St
     Step::Removed
 }
 
-/// Notes that the run of the path has failed. So from the place of each of its choices, a schedule fails.
+/// Notes that the run of the path has failed. So a schedule from the place of each choice of the path has failed, and
+/// [`back`] doesn't note the states of these places as known.
 pub fn fail(search: &mut Search)
     ensures { search.new ≡ record search.old { failing = search.old.count } }
 {

@@ -91,10 +91,12 @@ went_on : (s s' : Option AnswerError) (b c : Option (List ℕ)) (text : Text) �
 went_on None s' b c text wrote none = refl
 went_on (Some error) s' b c text wrote none = absurd (cc)
 
+-- In an interval without events, nothing was written, and what is kept is the same.
 pub heard_stays : (said : Text) (kept : Kept) (stop : Option AnswerError) (now : Option (List ℕ))
     → Heard said said kept kept stop stop now now []
 heard_stays said kept stop now = record { said_is = refl; wrote = text_stays stop now; kept_is = λ none. refl }
 
+-- The lists that were told in two consecutive intervals, joined, were told in the whole interval.
 pub written_joins : (said said' said'' : Text) (k k' k'' : Kept) (s s' s'' : Option AnswerError) (a b c : Option (List ℕ))
     (first later : List Told) → Heard said said' k k' s s' a b first → Heard said' said'' k' k'' s' s'' b c later
     → Heard said said'' k k'' s s'' a c (first ++ later)

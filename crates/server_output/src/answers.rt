@@ -28,7 +28,7 @@ pub enum Answer<'a> {
     Bytes(Wanted, &'a [u8]),
 }
 
-/// Returns the number with these bytes, the lowest first. Missing bytes are 0.
+/// Returns the number with these bytes, at most 8, the lowest first. Missing bytes are 0.
 #[tactic(auto, unfolding(crate::specs::Answers::number_of_bytes))]
 fn number_of(bytes: &[u8]) -> u64
     requires { length bytes.now ≤ 8 }
@@ -39,7 +39,8 @@ fn number_of(bytes: &[u8]) -> u64
     u64::from_le_bytes(all)
 }
 
-/// Writes the line of an answer.
+/// Writes the line of an answer. An answer `Bytes` must contain the number of bytes that its request
+/// asks for.
 pub fn say_answer<W: Write>(
     alloc: Global,
     out: &mut W,

@@ -79,7 +79,7 @@ impl Kept {
         }
     }
 
-    /// The recorder, if there is one, notes an action.
+    /// Records an action in the recorder, if there is one. Fails only if memory was refused.
     pub(crate) fn note(&mut self, action: Action) -> Result<(), AllocError>
         ensures { OnOk result (self.new ≡
             record self.old { recorder = option_map (after_playing action) self.old.recorder }) }

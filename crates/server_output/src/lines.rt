@@ -66,7 +66,7 @@ fn push_parts(text: &mut Vec<u8>, parts: &[&[u8]]) -> Result<(), AllocError>
     Ok(())
 }
 
-/// Returns the parts of a text, joined.
+/// Returns the parts of a text, joined. Fails only if memory was refused.
 pub fn joined(alloc: Global, parts: &[&[u8]]) -> Result<Vec<u8>, AllocError>
     ensures { IfOk result (λ text. text.items ≡ texts.joined_parts parts.now) }
 {
@@ -145,7 +145,8 @@ pub(crate) fn bytes_line(alloc: Global, bytes: &[u8]) -> Result<Vec<u8>, AllocEr
     joined(alloc, &[b"OK 0x", digits.as_bytes(), b"\n"])
 }
 
-/// Returns the line of an answer with a number, in 16 hexadecimal digits. Allocates nothing.
+/// Returns the line of an answer with a number, in 16 hexadecimal digits. Allocates nothing. The 16 digits are after
+/// the 5 bytes `OK 0x`, so the `unwrap` can't fail.
 #[tactic(auto, unfolding(crate::specs::Texts::bytes_line, crate::specs::Texts::number_line))]
 pub(crate) fn number_line(number: u64) -> [u8; 22]
     ensures { result ≡ texts.number_line number }
@@ -179,7 +180,8 @@ pub(crate) fn decimal_line(alloc: Global, number: u64) -> Result<Vec<u8>, AllocE
     word_line(alloc, digits.format(number).as_bytes())
 }
 
-/// Removes the oldest frame, if there is one, and appends the word of this frame.
+/// Removes the oldest frame, if there is one, and appends the word of this frame. So the words of the text and of the
+/// remaining frames, joined, don't change. If memory is refused, the frame is lost.
 fn push_frame(alloc: Global, text: &mut Vec<u8>, frames: &mut Frames) -> Result<(), AllocError>
     ensures same { OnOk result (text.new.items ++ flat_map texts.frame_word frames.new
         ≡ text.old.items ++ flat_map texts.frame_word frames.old) }
@@ -193,7 +195,8 @@ fn push_frame(alloc: Global, text: &mut Vec<u8>, frames: &mut Frames) -> Result<
     text.extend_from_slice(digits.as_bytes())
 }
 
-/// Returns the line of an answer with frames, the oldest first, and removes the frames.
+/// Returns the line of an answer with frames, the oldest first, and removes the frames. If memory is refused, frames
+/// can also be removed.
 pub(crate) fn frames_line(alloc: Global, frames: &mut Frames) -> Result<Vec<u8>, AllocError>
     ensures text { IfOk result (λ text. text.items ≡ texts.frames_line frames.old) }
     ensures none { OnOk result (frames.new ≡ []) }

@@ -72,7 +72,8 @@ pub fn say_enabled<W: Write>(
     say(out, line.as_slice())
 }
 
-/// Returns a space, `0x`, and a number in 16 hexadecimal digits.
+/// Returns a space, `0x`, and a number in 16 hexadecimal digits. The digits are after the 3 bytes ` 0x`, so the
+/// `unwrap` can't fail.
 fn number_word(number: u64) -> [u8; 19]
     ensures { result ≡ texts.number_word number }
 {

@@ -18,7 +18,7 @@ use std::io::{ErrorKind, Write};
 use text::turns;
 
 /// Writes a beginning of a text, with one call of the writer. Returns the number of bytes written, or 0 if the call was
-/// interrupted. Fails if the writer takes no byte, or has another error.
+/// interrupted. Fails if the writer takes no byte, or has another error; then nothing was written.
 fn write_some<W: Write>(out: &mut W, text: &[u8]) -> Result<usize, AnswerError>
     ensures ok { IfOk result (λ count. Appends (W.contents out.old) (W.contents out.new) (take count text.now)) }
     ensures few { IfOk result (λ count. count ≤ length text.now) }
@@ -107,7 +107,8 @@ pub(crate) fn say_decimal<W: Write>(
     say(out, line.as_slice())
 }
 
-/// Writes the line of an answer with frames. If the line is written, no frame is left in the list.
+/// Writes the line of an answer with frames. If the line is written, no frame is left in the list. At an error, frames
+/// can also be removed.
 pub fn say_frames<W: Write>(
     alloc: Global,
     out: &mut W,
@@ -128,7 +129,7 @@ pub fn say_faults<W: Write>(alloc: Global, out: &mut W, faults: &Faults) -> Resu
     say(out, line.as_slice())
 }
 
-/// Flushes the output.
+/// Flushes the output. The bytes that were written don't change, even at an error.
 pub fn send<W: Write>(out: &mut W) -> Result<(), AnswerError>
     ensures { Keeps (W.contents out.old) (W.contents out.new) }
 {

@@ -23,7 +23,8 @@ use step_schedules::Action;
 
 /// The observer that writes lines about what it is told, and keeps frames, faults and actions in `kept`.
 ///
-/// After an error, the observer writes and keeps nothing more, except the error.
+/// After an error, the observer writes and keeps nothing more, except the error. Calls use the borrows `out` and
+/// `kept`, but don't replace them: each `ghost_name`, which names a borrow, remains the same (`lent`).
 #[derive(Drop)]
 pub struct Lines<'a, W: Write> {
     /// The writer of the lines.
@@ -114,7 +115,7 @@ impl<'a, W: Write> Lines<'a, W> {
         event_text(self.alloc, self.kept.log, &said, shown.as_slice())
     }
 
-    /// Writes a text. Stores the error if this fails.
+    /// Writes a text. Stores the error if this fails. Writing must not have stopped before.
     fn write(&mut self, text: &[u8])
         requires { self.old.stopped ≡ None }
         ensures state { self.new ≡ record self.old { out = self.new.out; stopped = self.new.stopped } }
@@ -126,8 +127,8 @@ impl<'a, W: Write> Lines<'a, W> {
         }
     }
 
-    /// Writes the line of an answer. If writing has stopped, writes nothing, and returns the error that stopped
-    /// writing.
+    /// Writes the line of an answer, which must be as for [`say_answer`]. If writing has stopped, writes nothing, and
+    /// returns the error that stopped writing. Doesn't store an error.
     pub fn end(&mut self, answer: Answer<'_>) -> Result<(), AnswerError>
         requires { IsSized answer }
         ensures state { self.new ≡ record self.old { out = self.new.out } }
@@ -142,6 +143,7 @@ impl<'a, W: Write> Lines<'a, W> {
     }
 
     /// Writes the line of the log about an access or an arrival, if the log is on. Stores the error if this fails.
+    /// Writing must not have stopped before.
     fn say_request(&mut self)
         requires { self.old.stopped ≡ None }
         ensures state { self.new ≡ record self.old { out = self.new.out; stopped = self.new.stopped } }
@@ -152,6 +154,7 @@ impl<'a, W: Write> Lines<'a, W> {
         if !self.kept.log {
             return;
         }
+        // The log is on, and no other line follows.
         match event_text(self.alloc, true, &[self.said], &[]) {
             Ok(text) => self.write(text.as_slice()),
             Err(_) => self.stopped = Some(AnswerError::Memory),
@@ -159,6 +162,7 @@ impl<'a, W: Write> Lines<'a, W> {
     }
 
     /// Keeps the frame that a step put and the step's fault, if events aren't written. Stores the error if this fails.
+    /// Writing must not have stopped before.
     fn keep_step(&mut self, outcome: Outcome<()>, frame: &[u8], fault: Option<EngineFault>)
         requires { self.old.stopped ≡ None }
         ensures state { self.new ≡ record self.old { kept = self.new.kept; stopped = self.new.stopped } }

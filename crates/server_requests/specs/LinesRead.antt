@@ -53,17 +53,24 @@ TakesPart parts.None line line' old new = AtEnd old new × (line' ≡ line)
 TakesPart (parts.More is_long) line line' old new = (bytes : List ℕ) × GoesOn bytes old new × Adds is_long bytes line line'
 TakesPart (parts.Last is_long) line line' old new = (bytes : List ℕ) × IsRestOfLine bytes old new × Adds is_long bytes line line'
 
--- The first line of the bytes that were left was read, and isn't too long. The bytes after this line are left.
+-- The first line of the bytes that were left was read, and isn't too long.
 pub record IsWholeLine (line : Text) (old new : List ℕ) : Type 0 where
+  -- At least one byte was left.
   pub some : old ≢ []
+  -- The line isn't too long.
   pub short : length (first_line old) ≤ most_line_bytes
+  -- This line was read.
   pub line_is : line ≡ first_line old
+  -- The bytes after the line are left.
   pub rest : new ≡ behind_line old
 
--- The first line of the bytes that were left was read, and is too long. The bytes after this line are left.
+-- The first line of the bytes that were left was read, and is too long.
 pub record IsLong (old new : List ℕ) : Type 0 where
+  -- At least one byte was left.
   pub some : old ≢ []
+  -- The line is too long.
   pub long : most_line_bytes < length (first_line old)
+  -- The bytes after the line are left.
   pub rest : new ≡ behind_line old
 
 -- The meaning of the result of reading the next line: no line was left (`End`), `line` was read (`Whole`), or the line is too long

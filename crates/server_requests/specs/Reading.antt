@@ -77,7 +77,7 @@ wire_in word = is_first (codes "free") (codes "full") word >>= λ free. Ok (requ
 abbrev pub events_in : Text → Result Request Refusal
 events_in word = is_first (codes "on") (codes "off") word >>= λ on. Ok (requests.Set (settings.Events on))
 
--- the request for a step of this kind; if a word named no kind, the word is refused
+-- the request for a step of this kind, or the refusal `value` if there is no kind
 abbrev pub step_or_refusal : Option StepKind → Result Request Refusal
 step_or_refusal (Some kind) = Ok (requests.Step kind)
 step_or_refusal None = Err refusals.Value
@@ -208,8 +208,9 @@ abbrev pub request_in : List Text → Result Request Refusal
 request_in [] = Err refusals.Unknown
 request_in (first ∷ rest) = request_if (verb_named first) (first ∷ rest)
 
--- If the line is UTF-8, the result is the request or the refusal of its words, or memory was refused.
--- If the line isn't UTF-8, the result is the refusal `text`, or memory was refused.
+-- The result is the request of the line, or why it is refused, or memory was refused.
 pub record IsRequestRead (line : Text) (result : Result Request Stop) : Type 0 where
+  -- If the line is UTF-8, the result is the request or the refusal of its words.
   pub text : IsUtf8 line → Gives result (request_in (words_of line))
+  -- If the line isn't UTF-8, the result is the refusal `text`.
   pub other : (¬ (IsUtf8 line)) → Gives {A = Request} result (Err refusals.Text)

@@ -9,7 +9,7 @@ pub use Rattle.text.specs.Words.{texts, word, words_of}
 abbrev pub is_blank : ℕ → Bool
 is_blank byte = is_space byte || is_tab byte
 
--- the parts of the text after the first blank, which blanks separate, or no parts if there is no such text
+-- the parts into which blanks separate the text after the first blank, or no parts if there is no such text
 abbrev pub parts_after : Option (Bor Text) → List Text
 parts_after None = []
 parts_after (Some text) = slice_split is_blank text.now

@@ -53,6 +53,9 @@ enum Part {
 }
 
 /// Appends bytes to a line, as far as there is room for them. Returns `true` if there wasn't room for all bytes.
+///
+/// The line must have at most [`MOST_LINE_BYTES`] bytes, and capacity for this number. So nothing is allocated, and the
+/// `unwrap` can't fail.
 fn push_bytes(line: &mut Vec<u8>, bytes: &[u8]) -> bool
     requires room { MOST_LINE_BYTES ≤ vec_capacity line.old }
     requires fits { length line.old.items ≤ MOST_LINE_BYTES }
@@ -84,7 +87,8 @@ fn length_before_feed(bytes: &[u8]) -> usize
 }
 
 /// Reads the next part of a line from the reader's buffer, and appends the part as far as there is room. If the buffer
-/// contains the end of the line, skips the line feed.
+/// contains the end of the line, skips the line feed. At an error of the reader, nothing is read or appended. The line
+/// must be as for [`push_bytes`].
 fn take_part<R: BufRead>(reader: &mut R, line: &mut Vec<u8>) -> io::Result<Part>
     requires room { MOST_LINE_BYTES ≤ vec_capacity line.old }
     requires fits { length line.old.items ≤ MOST_LINE_BYTES }
@@ -119,7 +123,7 @@ fn take_part<R: BufRead>(reader: &mut R, line: &mut Vec<u8>) -> io::Result<Part>
 ///
 /// # Errors
 ///
-/// A read failed, except by an interruption.
+/// A read failed, except by an interruption; or too many reads (2^64 - 1) didn't reach the end of the line.
 pub fn next_line<R: BufRead>(reader: &mut R, line: &mut Vec<u8>) -> Result<NextLine, ReadFailed>
     requires { MOST_LINE_BYTES ≤ vec_capacity line.old }
     ensures next { IfOk result
@@ -130,6 +134,7 @@ pub fn next_line<R: BufRead>(reader: &mut R, line: &mut Vec<u8>) -> Result<NextL
     let mut is_long = false;
     for _turn in turns() {
         match take_part(reader, line) {
+            // The last line of the input may have no line feed.
             Ok(Part::None) => return Ok(if line.is_empty() {
                 NextLine::End
             } else {

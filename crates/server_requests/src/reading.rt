@@ -1,4 +1,4 @@
-// Reads requests from the words of a line.
+// Reads requests from the words of a line. A function with an allocator fails with `Stop::Memory` if memory is refused.
 
 ghost use Rattle.std.specs.Prelude.{◌≡◌, ◌≢◌, ◌≤◌, IfErr, IsTrue, length};
 ghost use Rattle.server_requests.specs.Reading as reading;
@@ -37,7 +37,8 @@ struct Area {
     size: u64,
 }
 
-/// Reads the ADDR and the SIZE of a line, its words 1 and 2.
+/// Returns the ADDR and the SIZE of a line, its words 1 and 2. The line must have these words. Refuses an invalid ADDR
+/// or SIZE.
 fn area_of(words: &[&str]) -> Result<Area, Stop>
     requires { 3 ≤ length words.now }
     ensures { Gives result (reading.area_in (texts words.now)) }
@@ -47,7 +48,7 @@ fn area_of(words: &[&str]) -> Result<Area, Stop>
     Ok(Area { address, size })
 }
 
-/// Returns the request to write bytes to an area, or refuses if their number isn't the size of the area.
+/// Returns the request to write bytes to an area. Refuses a payload whose number of bytes isn't the size of the area.
 fn write_to(area: Area, payload: Payload) -> Result<Request, Stop>
     ensures { Gives result (reading.write_to area payload) }
 {
@@ -57,7 +58,8 @@ fn write_to(area: Area, payload: Payload) -> Result<Request, Stop>
     Ok(Request::Write(area.address, payload))
 }
 
-/// Reads `write ADDR SIZE 0xHEX` or `b64write ADDR SIZE BASE64`.
+/// Returns the request of a line `write ADDR SIZE 0xHEX` or `b64write ADDR SIZE BASE64`, of four words. Refuses an
+/// invalid word, or a payload that doesn't have SIZE bytes.
 fn write_of(alloc: Global, encoding: Encoding, words: &[&str]) -> Result<Request, Stop>
     requires { length words.now ≡ 4 }
     ensures { Gives result (reading.write_in encoding (texts words.now)) }
@@ -67,7 +69,7 @@ fn write_of(alloc: Global, encoding: Encoding, words: &[&str]) -> Result<Request
     write_to(area, payload)
 }
 
-/// Reads `memset ADDR SIZE VALUE`.
+/// Returns the request of a line `memset ADDR SIZE VALUE`, of four words. Refuses an invalid word.
 fn memset_of(alloc: Global, words: &[&str]) -> Result<Request, Stop>
     requires { length words.now ≡ 4 }
     ensures { Gives result (reading.memset_in (texts words.now)) }
@@ -78,7 +80,8 @@ fn memset_of(alloc: Global, words: &[&str]) -> Result<Request, Stop>
     Ok(Request::Write(area.address, Payload { bytes }))
 }
 
-/// Reads `readb ADDR`, `readw ADDR`, `readl ADDR` or `readq ADDR`.
+/// Returns the request of a line `readb ADDR`, `readw ADDR`, `readl ADDR` or `readq ADDR`, of two words. Refuses an
+/// invalid ADDR.
 fn read_number_of(width: Width, words: &[&str]) -> Result<Request, Stop>
     requires { length words.now ≡ 2 }
     ensures { Gives result (reading.read_number_in width (texts words.now)) }
@@ -87,7 +90,8 @@ fn read_number_of(width: Width, words: &[&str]) -> Result<Request, Stop>
     Ok(Request::Read(Wanted::Number(width), address))
 }
 
-/// Reads `writeb ADDR VALUE`, `writew ADDR VALUE`, `writel ADDR VALUE` or `writeq ADDR VALUE`.
+/// Returns the request of a line `writeb ADDR VALUE`, `writew ADDR VALUE`, `writel ADDR VALUE` or `writeq ADDR VALUE`,
+/// of three words. Refuses an invalid ADDR, or a VALUE above the greatest number of the width.
 fn write_number_of(alloc: Global, width: Width, words: &[&str]) -> Result<Request, Stop>
     requires { length words.now ≡ 3 }
     ensures { Gives result (reading.write_number_in width (texts words.now)) }
@@ -108,7 +112,7 @@ fn wanted_bytes(encoding: Encoding, size: u64) -> Wanted
     }
 }
 
-/// Reads `read ADDR SIZE` or `b64read ADDR SIZE`.
+/// Returns the request of a line `read ADDR SIZE` or `b64read ADDR SIZE`, of three words. Refuses an invalid word.
 fn read_of(encoding: Encoding, words: &[&str]) -> Result<Request, Stop>
     requires { length words.now ≡ 3 }
     ensures { Gives result (reading.read_request encoding (texts words.now)) }
@@ -117,7 +121,7 @@ fn read_of(encoding: Encoding, words: &[&str]) -> Result<Request, Stop>
     Ok(Request::Read(wanted_bytes(encoding, area.size), area.address))
 }
 
-/// Returns the number of an I/O port that a word spells, or refuses the word.
+/// Returns the number of an I/O port that a word spells. Refuses a word that isn't a number, or a number above 65,535.
 fn port_at(word: &str) -> Result<u16, Stop>
     ensures value { Gives result (number_below reading.most_port word.now) }
     ensures no_memory { IfErr result (λ stop. stop ≢ Memory) }
@@ -126,7 +130,7 @@ fn port_at(word: &str) -> Result<u16, Stop>
     Ok(port as u16)
 }
 
-/// Reads `inb PORT`, `inw PORT` or `inl PORT`.
+/// Returns the request `inb PORT`, `inw PORT` or `inl PORT`, from the word PORT. Refuses an invalid PORT.
 fn read_port_of(width: PortWidth, word: &str) -> Result<Request, Stop>
     ensures { Gives result (reading.read_port_in width word.now) }
 {
@@ -134,7 +138,8 @@ fn read_port_of(width: PortWidth, word: &str) -> Result<Request, Stop>
     Ok(Request::Look(Look::Port(width, port)))
 }
 
-/// Reads `outb PORT VALUE`, `outw PORT VALUE` or `outl PORT VALUE`.
+/// Returns the request of a line `outb PORT VALUE`, `outw PORT VALUE` or `outl PORT VALUE`, of three words. Refuses an
+/// invalid PORT, or a VALUE above the greatest number of the width.
 fn write_port_of(width: PortWidth, words: &[&str]) -> Result<Request, Stop>
     requires { length words.now ≡ 3 }
     ensures { Gives result (reading.write_port_in width (texts words.now)) }
@@ -144,7 +149,7 @@ fn write_port_of(width: PortWidth, words: &[&str]) -> Result<Request, Stop>
     Ok(Request::WritePort(width, port, value as u32))
 }
 
-/// Reads `arrive HEX`.
+/// Returns the request `arrive HEX`, from the word HEX. Refuses a word that isn't pairs of hexadecimal digits.
 fn arrive_of(alloc: Global, word: &str) -> Result<Request, Stop>
     ensures { Gives result (reading.arrive_in word.now) }
 {
@@ -152,7 +157,7 @@ fn arrive_of(alloc: Global, word: &str) -> Result<Request, Stop>
     Ok(Request::Arrive(frame))
 }
 
-/// Reads `offer HEX`.
+/// Returns the request `offer HEX`, from the word HEX. Refuses a word that isn't pairs of hexadecimal digits.
 fn offer_of(alloc: Global, word: &str) -> Result<Request, Stop>
     ensures { Gives result (reading.offer_in word.now) }
 {
@@ -160,7 +165,8 @@ fn offer_of(alloc: Global, word: &str) -> Result<Request, Stop>
     Ok(Request::Offer(frame))
 }
 
-/// Reads `interleave COUNT`.
+/// Returns the request `interleave COUNT`, from its second word. Refuses a COUNT that isn't a number up to
+/// [`MOST_COUNT`].
 fn interleave_of(word: &str) -> Result<Request, Stop>
     ensures { Gives result (reading.interleave_in word.now) }
 {
@@ -182,7 +188,7 @@ fn is_first(word: &str, first: &str, second: &str) -> Result<bool, Stop>
     Err(Stop::Refused(Refusal::Value))
 }
 
-/// Reads `log on`, `log off` or `log targets`.
+/// Returns the request `log on`, `log off` or `log targets`, from its second word. Refuses any other word.
 fn log_of(word: &str) -> Result<Request, Stop>
     ensures { Gives result (reading.log_in word.now) }
 {
@@ -196,7 +202,7 @@ fn log_of(word: &str) -> Result<Request, Stop>
     Ok(Request::Set(Setting::Log { on, targets: false }))
 }
 
-/// Reads `wire free` or `wire full`.
+/// Returns the request `wire free` or `wire full`, from its second word. Refuses any other word.
 fn wire_of(word: &str) -> Result<Request, Stop>
     ensures { Gives result (reading.wire_in word.now) }
 {
@@ -204,7 +210,7 @@ fn wire_of(word: &str) -> Result<Request, Stop>
     Ok(Request::Set(Setting::Wire(free)))
 }
 
-/// Reads `events on` or `events off`. Refuses any other word.
+/// Returns the request `events on` or `events off`, from its second word. Refuses any other word.
 fn events_of(word: &str) -> Result<Request, Stop>
     ensures { Gives result (reading.events_in word.now) }
 {
@@ -212,7 +218,7 @@ fn events_of(word: &str) -> Result<Request, Stop>
     Ok(Request::Set(Setting::Events(on)))
 }
 
-/// Reads `pace COUNT`.
+/// Returns the request `pace COUNT`, from the word COUNT. Refuses a COUNT that isn't a number up to [`MOST_COUNT`].
 fn pace_of(word: &str) -> Result<Request, Stop>
     ensures { Gives result (reading.pace_in word.now) }
 {
@@ -220,7 +226,8 @@ fn pace_of(word: &str) -> Result<Request, Stop>
     Ok(Request::Set(Setting::Pace(count as u16)))
 }
 
-/// Reads `clock_step` or `clock_step NS`.
+/// Returns the request of a line `clock_step` or `clock_step NS`, with at least one word. Without NS, the clock
+/// advances by 0. Refuses an NS that isn't a number of at most 64 bits.
 fn clock_step_of(words: &[&str]) -> Result<Request, Stop>
     requires { 1 ≤ length words.now }
     ensures { Gives result (reading.clock_step_in (texts words.now)) }
@@ -232,7 +239,7 @@ fn clock_step_of(words: &[&str]) -> Result<Request, Stop>
     Ok(Request::ClockStep(time))
 }
 
-/// Reads `clock_set NS`.
+/// Returns the request `clock_set NS`, from the word NS. Refuses an NS that isn't a number of at most 64 bits.
 fn clock_set_of(word: &str) -> Result<Request, Stop>
     ensures { Gives result (reading.clock_set_in word.now) }
 {
@@ -240,7 +247,7 @@ fn clock_set_of(word: &str) -> Result<Request, Stop>
     Ok(Request::ClockSet(time))
 }
 
-/// Reads `step KIND`.
+/// Returns the request `step KIND`, from the word KIND. Refuses a KIND that isn't the name of a kind of steps.
 #[tactic(auto, unfolding(crate::specs::Verbs::step_kind_named))]
 fn step_of(word: &str) -> Result<Request, Stop>
     ensures { Gives result (reading.step_in word.now) }
@@ -251,7 +258,7 @@ fn step_of(word: &str) -> Result<Request, Stop>
     }
 }
 
-/// Reads `choose LIMIT`.
+/// Returns the request `choose LIMIT`, from the word LIMIT. Refuses a LIMIT that isn't from 1 to [`MOST_LIMIT`].
 fn choose_of(word: &str) -> Result<Request, Stop>
     ensures { Gives result (reading.choose_in word.now) }
 {
@@ -262,7 +269,7 @@ fn choose_of(word: &str) -> Result<Request, Stop>
     Ok(Request::Choose(limit as u32))
 }
 
-/// Reads `target ADDR SIZE`.
+/// Returns the request of a line `target ADDR SIZE`, of three words. Refuses an invalid word.
 fn target_of(words: &[&str]) -> Result<Request, Stop>
     requires { length words.now ≡ 3 }
     ensures { Gives result (reading.target_request (texts words.now)) }
@@ -271,7 +278,8 @@ fn target_of(words: &[&str]) -> Result<Request, Stop>
     Ok(Request::Look(Look::Target(area.address, area.size)))
 }
 
-/// Returns the request of a line with this kind of request. The line has an allowed number of words.
+/// Returns the request of a line with this kind of request. The line must have an allowed number of words. Refuses a
+/// line with an invalid word, or with a payload that doesn't have SIZE bytes.
 fn request_with(alloc: Global, verb: Verb, words: &[&str]) -> Result<Request, Stop>
     requires { IsTrue (takes_words verb (length words.now)) }
     ensures { Gives result (reading.request_with verb (texts words.now)) }
@@ -310,8 +318,8 @@ fn request_with(alloc: Global, verb: Verb, words: &[&str]) -> Result<Request, St
     }
 }
 
-/// Returns the request of the words of a line. Refuses a line without words, or with an unknown first word, or with a
-/// number of words that isn't allowed.
+/// Returns the request of the words of a line. Refuses a line without words, with an unknown first word, or with a
+/// number of words that isn't allowed. After these checks, refuses what [`request_with`] refuses.
 fn request_of(alloc: Global, words: &[&str]) -> Result<Request, Stop>
     ensures { Gives result (reading.request_in (texts words.now)) }
 {
@@ -331,8 +339,9 @@ fn request_of(alloc: Global, words: &[&str]) -> Result<Request, Stop>
 ///
 /// # Errors
 ///
-/// The line is refused, for the first reason that applies: `text`, `unknown`, `count`; then, for the words from left to
-/// right, `value` or `size`; then `value` if the number of bytes in a payload isn't SIZE. Or memory was refused.
+/// [`Stop::Refused`] with the first reason that applies: `text`, `unknown`, `count`; then, for the words from left to
+/// right, `value` or `size`; then `value` if the number of bytes in a payload isn't SIZE. [`Stop::Memory`] if memory
+/// was refused.
 pub fn read_line(alloc: Global, line: &[u8]) -> Result<Request, Stop>
     ensures { reading.IsRequestRead line.now result }
 {

@@ -56,7 +56,8 @@ impl Payload {
 /// A setting that later requests use.
 #[derive(Clone, Copy)]
 pub enum Setting {
-    /// `interleave`: up to this number of random steps are played before each access, except with a schedule.
+    /// `interleave`: up to this number of random steps and arrivals are played before each access, except with a
+    /// schedule.
     Interleave(u16),
     /// `pace`: up to this number of cycles are played after each access and each `arrive`.
     Pace(u16),

@@ -1,4 +1,5 @@
-// The numbers and bytes that words spell. Decoding bytes fails with `Stop::Memory` if memory is refused.
+// The numbers and bytes that words spell. Functions with an allocator fail with `Stop::Memory` if memory is refused.
+// The other functions never fail with it (`no_memory`).
 
 ghost use Rattle.std.specs.Prelude.{◌≢◌, IfErr};
 ghost use Rattle.server_requests.specs.Spellings.{Gives, base64_in, bytes_spelled, number_below, payload_in};
@@ -62,8 +63,8 @@ fn base64_at(alloc: Global, text: &str) -> Result<Payload, Stop>
     }
 }
 
-/// Returns the bytes that pairs of hexadecimal digits after `0x` spell: none for the word `0x`. Refuses a word that
-/// isn't `0x` and such pairs.
+/// Returns the bytes that pairs of hexadecimal digits after `0x` spell. The word `0x` spells no bytes. Refuses a word
+/// that isn't `0x` and such pairs.
 fn prefixed_bytes_at(alloc: Global, text: &str) -> Result<Payload, Stop>
     ensures { Gives result (prefixed_bytes_in text.now) }
 {
@@ -77,7 +78,7 @@ fn prefixed_bytes_at(alloc: Global, text: &str) -> Result<Payload, Stop>
     }
 }
 
-/// Returns the bytes that a word spells in this encoding. Refuses other words.
+/// Returns the bytes that a word spells in this encoding. Refuses a word that isn't in this encoding.
 pub(crate) fn payload_at(alloc: Global, encoding: Encoding, text: &str) -> Result<Payload, Stop>
     ensures { Gives result (payload_in encoding text.now) }
 {

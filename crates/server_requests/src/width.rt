@@ -33,7 +33,8 @@ impl Width {
         }
     }
 
-    /// Returns the bytes of a number of this width, the lowest first.
+    /// Returns the bytes of a number of this width, the lowest first. Higher bytes of a greater number are dropped.
+    /// Fails only if memory was refused.
     #[tactic(auto, unfolding(crate::specs::Widths::bytes_spelling))]
     pub fn bytes_spelling(self, alloc: Global, number: u64) -> Result<Vec<u8>, AllocError>
         ensures { IfOk result (λ bytes. bytes.items ≡ bytes_spelling self number) }

@@ -8,8 +8,8 @@ ghost use Rattle.server_requests.specs.Words.{is_blank, parts_after, texts, word
 
 use arrayvec::ArrayVec;
 
-/// The number of words that are read from a line. A request has at most four words, so a fifth shows that there are too
-/// many.
+/// The maximum number of words that are read from a line. A request has at most four words, so a fifth shows that there
+/// are too many.
 const READ_WORDS: usize = 5;
 
 /// Returns whether a byte is a space or a tab, which separate words.
@@ -38,7 +38,7 @@ fn cut(line: &str) -> (&str, Option<&str>)
     }
 }
 
-/// Appends a part of a line to the words, unless the part is empty.
+/// Appends a part of a line to the words, unless the part is empty. There must be room for another word.
 fn push_part<'a>(words: &mut ArrayVec<&'a str, READ_WORDS>, part: &'a str)
     requires { length words.old.items < READ_WORDS }
     ensures { texts words.new.items ≡ texts words.old.items ++ filter is_word (part.now ∷ []) }
@@ -48,7 +48,8 @@ fn push_part<'a>(words: &mut ArrayVec<&'a str, READ_WORDS>, part: &'a str)
     }
 }
 
-/// Returns the first five words of a line, or all words if the line has fewer. Spaces and tabs separate words.
+/// Returns the first five words of a line, or all words if the line has fewer. Spaces and tabs separate words. The
+/// request, or the refusal, of these words is that of all words of the line.
 pub(crate) fn words_in(line: &str) -> ArrayVec<&str, READ_WORDS>
     ensures words { texts result.items ≡ take READ_WORDS (words_of line.entry.now) }
     ensures asked { request_in (texts result.items) ≡ request_in (words_of line.entry.now) }

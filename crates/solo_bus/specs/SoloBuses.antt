@@ -20,7 +20,9 @@ use Rattle.bus.specs.declared.event.Event.TheVariants.{Accesses, Arrives, Steps}
 use Rattle.solo_bus.specs.declared.solo_bus.SoloTick.{SoloTick}
 use Rattle.solo_bus.specs.declared.solo_bus.SoloTick.TheVariants.{Arrive, Go, Step}
 
+-- The state of a solo bus in contracts.
 pub record SoloState : Type 0 where
+  -- The adapter and its memory.
   pub world : World
   -- Whether the bus plays a tick of the EEPROM and a tick of the PHY before each access.
   pub lively : Bool
@@ -35,6 +37,7 @@ pub record SoloState : Type 0 where
 abbrev pub wire_frames : ℕ
 wire_frames = 64
 
+-- The greatest number of ticks that wait (our choice).
 abbrev pub most_ticks : ℕ
 most_ticks = 32
 
@@ -55,9 +58,11 @@ frames_put_next (queued ∷ later) = queued.frame ∷ []
 abbrev pub solo_after_step : StepKind → FrameOutcome → SoloState → SoloState
 solo_after_step kind answer solo = record solo { world = world_after_step kind answer solo.world; wire = solo.wire ++ put_by answer }
 
+-- The bus after a frame has arrived, with this fate.
 abbrev pub solo_after_arrival : Fate → List ℕ → SoloState → SoloState
 solo_after_arrival fate frame solo = record solo { world = world_after_arrival fate frame solo.world }
 
+-- Whether a tick is `Go`.
 abbrev pub is_solo_go : SoloTick → Bool
 is_solo_go Go = true
 is_solo_go (Step kind) = false
@@ -83,27 +88,30 @@ AreFree (Steps kind wire_free answer ∷ later) frames =
 AreFree (Arrives frame fate ∷ later) frames = AreFree later frames
 AreFree (Accesses access ∷ later) frames = AreFree later frames
 
--- The wire of `b` contains the frames on the wire of `a`, followed by those of `put`. Each step was played with a free wire if and only if
--- the wire had room.
+-- From `a` to `b`, the steps of these events put the frames `put` on the wire.
 pub record PutOnWire (a b : SoloState) (events : List Event) (put : List (List ℕ)) : Type 0 where
   -- Each step was played with the wire free if and only if the wire had room.
   pub free : AreFree events (length a.wire)
   -- The wire contains the frames that it contained in `a`, followed by those of `put`.
   pub frames : b.wire ≡ a.wire ++ put
 
--- `past` is the record of what happened from `a` to `b`. The fields state the events, their ticks, the frames put on the wire, and the
--- counted accesses.
+-- `past` is the record of what happened from `a` to `b`.
 pub record Recounts (a b : SoloState) (past : Past) : Type 0 where
+  -- The accesses, steps and arrivals from `a` to `b`, in order.
   pub events : List Event
+  -- From the world of `a`, these events reach the world of `b`.
   pub trail : Trail events a.world b.world
+  -- The record contains exactly these events.
   pub past_is : past ≡ past_of events
   -- Before each access, the bus's own ticks and those of the next group were played, one event for each tick, in order. No event followed
   -- the last access.
   pub played : map solo_tick_of events ≡ played_in is_solo_go Go (lively_ticks a.lively) past.accesses a.waiting
   -- One group was played for each access. All other ticks still wait.
   pub waiting : b.waiting ≡ waiting_after is_solo_go past.accesses a.waiting
+  -- The frames that the steps put are on the wire.
   pub wire : PutOnWire a b events past.put
   pub lively : b.lively ≡ a.lively
+  -- Each access was counted, up to the greatest u64.
   pub count : min b.accesses most_accesses ≡ min (a.accesses + length past.accesses) most_accesses
 
 -- 1 if the tick is a tick of the EEPROM, else 0.
@@ -111,6 +119,7 @@ abbrev pub eeprom_tick : SoloTick → ℕ
 eeprom_tick (Step EepromTick) = 1
 eeprom_tick _ = 0
 
+-- 1 if the tick is a tick of the PHY, else 0.
 abbrev pub phy_tick : SoloTick → ℕ
 phy_tick (Step PhyTick) = 1
 phy_tick _ = 0
@@ -127,17 +136,23 @@ pub record PlaysLively (a : SoloState) (past : Past) : Type 0 where
 
 -- From `a` to `b`, exactly these ticks are played, with one event for each tick and no access. In `b`, the ticks `left` wait.
 pub record PlaysSoloTicks (ticks left : List SoloTick) (a b : SoloState) : Type 0 where
+  -- The events of the ticks, in order.
   pub events : List Event
+  -- No event is an access.
   pub are : All IsStep events
+  -- From the world of `a`, these events reach the world of `b`.
   pub trail : Trail events a.world b.world
+  -- The events are those of exactly these ticks.
   pub played : map solo_tick_of events ≡ ticks
   pub waiting : b.waiting ≡ left
+  -- The frames that the steps put are on the wire.
   pub wire : PutOnWire a b events (past_of events).put
   pub lively : b.lively ≡ a.lively
   pub accesses : b.accesses ≡ a.accesses
 
 -- From `a` to `b`, the bus plays its own ticks and the next group before an access. The bus also counts the access, up to the greatest u64.
 pub record Prepared (a b : SoloState) : Type 0 where
+  -- The ticks are played, and the other ticks still wait. Only the count of accesses differs from `b`.
   pub plays : PlaysSoloTicks (lively_ticks a.lively ++ group_of is_solo_go a.waiting) (behind_group is_solo_go a.waiting) a
       (record b { accesses = a.accesses })
   pub count : b.accesses ≡ min (a.accesses + 1) most_accesses

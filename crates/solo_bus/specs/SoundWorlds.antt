@@ -19,12 +19,15 @@ pub record HasRings (world : World) : Type 0 where
   pub transmits : 0 < count_of (transmit_ring world)
   pub offers : offered (receive_ring world) ≢ []
 
+-- A piece of a frame is in progress in a slot of the receive ring.
 abbrev pub HasPieceInWork : World → Type 0
 HasPieceInWork world = slots_in_work world ≢ []
 
+-- The receive ring's oldest slot, slot 0, is finished.
 abbrev pub HasFinished : World → Type 0
 HasFinished world = finished 0 world ≢ []
 
+-- The transmit ring's oldest slot, slot 0, is written back.
 abbrev pub HasWrittenBack : World → Type 0
 HasWrittenBack world = written_back_slots 0 world ≢ []
 

@@ -1,4 +1,5 @@
-// The solo bus as a `Bus`, which obeys the bus law, and as an `HonestBus`, which counts its accesses.
+// The solo bus as a `Bus`, which obeys the bus law, and as an `HonestBus`, which counts its accesses. The contracts
+// of the functions are in these traits. Before an access, `prepare` plays the ticks that precede it, and counts it.
 
 ghost use Rattle.std.specs.Prelude.{◌≡◌, length, min};
 

@@ -23,7 +23,7 @@ pub const WIRE_FRAMES: u8 = 64;
 /// A tick of a solo bus: what is played before an access.
 #[derive(Debug, Drop, PartialEq, Eq)]
 pub enum SoloTick {
-    /// The next access of the driver is made at this place.
+    /// A group of ticks ends, and the next access of the driver is made at this place.
     Go,
     /// The adapter takes a step.
     Step(StepKind),
@@ -33,8 +33,8 @@ pub enum SoloTick {
 
 /// A bus with one adapter and its memory, and no other device at its wire.
 ///
-/// In contracts, the value is a `SoloState`, plain data that `specs/SoloBuses.antt` defines. `new` allocates all
-/// memory.
+/// In contracts, the value is a `SoloState`, plain data that `specs/SoloBuses.antt` defines. The clauses `running` and
+/// `adapter` of a call state that the adapter's invariant held before the call. `new` allocates all memory.
 #[derive(Drop)]
 pub struct SoloBus {
     machine: Machine,
@@ -97,8 +97,9 @@ impl SoloBus {
         })
     }
 
-    /// Plays a step of the adapter. The wire has room while fewer than 64 frames are on it. If the step puts a frame,
-    /// the frame is on the wire, after the others, until [`take_put`](SoloBus::take_put) removes it.
+    /// Plays a step of the adapter, and returns its outcome. The wire has room if fewer than 64 frames are on it before
+    /// the step. If the step puts a frame, the frame is on the wire, after the others, until
+    /// [`take_put`](SoloBus::take_put) removes it.
     pub fn step(&mut self, kind: StepKind) -> Outcome<()>
         ensures answer { Answers kind (wire_has_room self.old) self.old.world.memory self.old.world.adapter
             (solo_framed result self.old) }
@@ -135,7 +136,7 @@ impl SoloBus {
         self.machine.arrive(frame)
     }
 
-    /// Removes the oldest frame from the wire. Returns `None` if and only if there is no frame.
+    /// Removes the oldest frame from the wire, and returns it. Returns `None` if and only if no frame is on the wire.
     pub fn take_put(&mut self) -> Option<Frame>
         ensures none { IsNone result ↔ (self.old.wire ≡ []) }
         ensures oldest { IfSome result (λ frame. slice_get self.old.wire 0 ≡ Some frame) }
@@ -153,7 +154,7 @@ impl SoloBus {
         ensures { self.new ≡ record self.old { waiting = self.old.waiting ++ ticks.now } }
     {
         for tick in ticks {
-            // There is room, so the buffer removes no older tick.
+            // There is room, so the call returns no tick that it dropped.
             let _ = self.waiting.push_back(copy_of(tick));
         }
     }
@@ -166,7 +167,8 @@ impl SoloBus {
         self.waiting.len()
     }
 
-    /// Plays all ticks that wait, and skips each [`Go`](SoloTick::Go).
+    /// Plays and removes all ticks that wait, and skips each [`Go`](SoloTick::Go). No access is made or counted, and
+    /// the outcomes and fates are dropped.
     pub fn finish(&mut self)
         ensures { PlaysSoloTicks (without_go is_solo_go self.old.waiting) [] self.old self.new }
     {
@@ -220,7 +222,8 @@ impl SoloBus {
         self.accesses = self.accesses.saturating_add(1);
     }
 
-    /// Plays the ticks that precede an access, the bus's own and those of the next group, and counts the access.
+    /// Plays the ticks that precede an access: first the bus's own (`live`), and then those up to the next
+    /// [`Go`](SoloTick::Go) (`play_group`). Counts the access, but doesn't make it.
     pub(crate) fn prepare(&mut self)
         ensures { Prepared self.old self.new }
     {
@@ -282,7 +285,8 @@ impl SoloBus {
         self.machine.write(offset, value);
     }
 
-    /// Loads bytes from memory. The bytes must be inside memory. No tick is played before the load.
+    /// Fills `into` with the bytes of memory from `address` on, which must be inside memory. No tick is played before
+    /// the load.
     pub(crate) fn load_now(&self, address: u64, into: &mut [u8])
         requires lies { LiesIn self.now.world.memory address (length into.old) }
         ensures loaded { into.new ≡ bytes_at self.now.world.memory address (length into.old) }
@@ -291,7 +295,7 @@ impl SoloBus {
         self.machine.load(address, into);
     }
 
-    /// Stores bytes in memory. The bytes must be inside memory. No tick is played before the store.
+    /// Stores bytes in memory from `address` on. Their range must be inside memory. No tick is played before the store.
     pub(crate) fn store_now(&mut self, address: u64, bytes: &[u8])
         requires lies { LiesIn self.old.world.memory address (length bytes.now) }
         ensures state { self.new ≡ record self.old { world = world_after_store address bytes.now self.old.world } }

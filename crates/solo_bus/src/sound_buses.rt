@@ -1,8 +1,8 @@
 //! Buses on which the conditions of the law hold, each in another state of its rings or of its frame.
 //!
-//! Each bus has a new adapter whose link is never up, and 4,096 bytes of memory. A receive buffer is at 0, and the
-//! receive ring of eight slots at 2,048. The transmit ring of eight slots is at 2,176, and data to be sent at 2,304.
-//! Slot 0 is the driver's oldest slot in both rings.
+//! Each bus has a new adapter whose link is never up, and 4,096 bytes of memory. Memory is all zeros at first, so each
+//! receive descriptor has the buffer at 0. The receive ring is at 2,048, the transmit ring at 2,176, and data to be
+//! sent at 2,304. Each ring has eight slots. Slot 0 is the driver's oldest slot in both rings.
 
 ghost use Rattle.std.specs.Prelude.{◌≡◌, IfOk};
 ghost use Rattle.solo_bus.specs.SoundWorlds.{HasFinished, HasFramesInBuffer, HasFramesInRing, HasRings, HasPieceInWork};
@@ -37,7 +37,7 @@ const TRANSMIT: u32 = 0x0000_000A;
 /// A broadcast frame, which the filter accepts if RCTL.BAM is set.
 const BROADCAST: [u8; 60] = [0xFF; 60];
 
-/// A transmit descriptor of a frame of 60 bytes at address 2,304, with EOP, IFCS and RS.
+/// A transmit descriptor of a frame of 60 bytes at address 2,304 (9 * 256), with EOP, IFCS and RS (0x0B).
 const REQUEST: [u8; 16] = [0, 9, 0, 0, 0, 0, 0, 0, 60, 0, 0, 0x0B, 0, 0, 0, 0];
 
 /// Returns a bus on which both rings are set up and the first receive slot is offered.
@@ -66,6 +66,7 @@ pub fn with_work(alloc: Global, image: &Image) -> Result<SoloBus, AllocError>
     ensures work { IfOk result (λ bus. HasPieceInWork bus.world) }
 {
     let mut bus = with_rings(alloc, image)?;
+    // The frame is stored, and RxData moves all of it. The frame's fate and the outcome aren't needed.
     bus.arrive(&BROADCAST);
     bus.step(StepKind::RxData);
     Ok(bus)
@@ -86,7 +87,7 @@ pub fn with_finished_slot(alloc: Global, image: &Image) -> Result<SoloBus, Alloc
     Ok(bus)
 }
 
-/// Returns a bus with a frame to be sent in the transmit ring.
+/// Returns a bus with an offered transmit slot, which contains the descriptor of a frame to be sent.
 ///
 /// # Errors
 ///
@@ -117,7 +118,7 @@ pub fn with_buffered_frame(alloc: Global, image: &Image) -> Result<SoloBus, Allo
     Ok(bus)
 }
 
-/// Returns a bus on which both rings are set up, and no slot is offered.
+/// Returns a bus on which both rings are set up, and no slot is offered. Returns an error only if an allocation fails.
 fn at_rest(alloc: Global, image: &Image) -> Result<SoloBus, AllocError>
     ensures { IfOk result (λ bus. bus.world ≡ resting MEMORY_BYTES image.now) }
 {

@@ -55,7 +55,7 @@ SuitsWire host wire (Accesses access) stations = ⊤
 pub record OccursAt (host : ℕ) (event : Event) (stations : List StationState) : Type 0 where
   -- The number of the host's wire.
   pub wire : ℕ
-  -- The host is on this wire.
+  -- The host exists, and is on this wire.
   pub on_wire : wire_at stations host ≡ Some wire
   -- The event can happen to the host's adapter and memory.
   pub occurs : Occurs event (world_at stations host)

@@ -1,6 +1,7 @@
 -- The states of the ends of wires: one end for each host of a network.
 use Rattle.std.specs.Prelude.{◌≡◌, ◌≢◌, ◌<◌, ◌==◌, ◌&&◌, not, ℕ, Some, List, ◌++◌, length, slice_get, if◌then◌else◌}
 
+-- The state of an end of a wire.
 pub record EndState : Type 0 where
   -- The number of the wire.
   pub wire : ℕ

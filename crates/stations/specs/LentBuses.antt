@@ -47,6 +47,7 @@ pub record HappenedLent {O : Type 0} {g : OfObserver O} (a b : LentBus O g) (pas
   pub leads : LeadsTo a.host steps a.stations.now b.stations.now
   pub past_is : past ≡ past_at a.host steps
   pub played : map tick_of steps ≡ played_in is_go Go [] past.accesses a.ticks.now
+  -- the ticks that are still to be played
   pub waiting : b.ticks.now ≡ waiting_after is_go past.accesses a.ticks.now
   pub heard : g.heard a.observer.now b.observer.now (steps_told a.accesses steps)
   pub accesses : CountsAccesses a b steps past

@@ -9,6 +9,7 @@ pub record OutcomeList : Type 0 where
   pub list : List Numbered
   pub room : ℕ
 
+-- The value of `Outcomes` in contracts, from the fields of the struct.
 abbrev pub outcomes_of : Inside → OutcomeList
 outcomes_of inside = record { list = inside.list.items; room = length inside.spare.items }
 

@@ -9,7 +9,9 @@ use Rattle.stations.specs.AtomicRuns.{IsTick, LeadsTo, steps_told}
 -- `accesses`. The observer's room decreases by at most one outcome for each tick.
 pub record PlaysTicks {O : Type 0} (observers : OfObserver O) (ticks : List Tick) (accesses : ℕ) (old new : Watched O) : Type 0 where
   pub steps : List AtomicStep
+  -- no step is an access, or a `Go`
   pub are : All IsTick steps
+  -- the steps can happen in a call of any host
   pub leads : (caller : ℕ) → LeadsTo caller steps old.stations new.stations
   pub played : map tick_of steps ≡ ticks
   pub heard : observers.heard old.observer new.observer (steps_told accesses steps)

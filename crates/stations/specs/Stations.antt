@@ -86,7 +86,7 @@ abbrev pub at_each : (ℕ → StationState → StationState) → ℕ → List St
 at_each change k [] = []
 at_each change k (station ∷ later) = change k station ∷ at_each change (suc k) later
 
--- All stations after an event at the host `host` with this station; unchanged if there is no station.
+-- All stations after an event at the host `host`, whose station is the first argument; unchanged if there is no station.
 abbrev pub all_after : Option StationState → (host : ℕ) → Event → List StationState → List StationState
 all_after None host event stations = stations
 all_after (Some station) host event stations = at_each (each_after host station.wire event) 0 stations

@@ -18,6 +18,7 @@ log_of logs end = slice_index_or logs end.log []
 abbrev pub unread : List (List LogEntry) → (k : ℕ) → End → List (List ℕ)
 unread logs k end = frames_of_others k (drop end.cursor (log_of logs end))
 
+-- The state of the k-th end.
 abbrev pub end_of : List (List LogEntry) → (k : ℕ) → End → EndState
 end_of logs k end = record { wire = end.wire; backlog = unread logs k end }
 

@@ -16,6 +16,7 @@ impl<'a, 't, O: Observer> Bus for LentBus<'a, 't, O> {
 
     ghost honest = { λ bus. ⊤ };
 
+    // The bus plays only the ticks that it contains, so it isn't lively.
     ghost lively = { λ bus. ⊥ };
 
     ghost world = { world_here };
@@ -63,6 +64,7 @@ impl<'a, 't, O: Observer> HonestBus for LentBus<'a, 't, O> {
     ghost use Rattle.bus.specs.LivelyBuses.{most_accesses};
     ghost use Rattle.stations.specs.LentBusLaws.{lent_happened_count};
 
+    // `min`: in contracts, the field may be any natural number, also one that is too large for a `u64`.
     ghost counted = { λ bus. min bus.accesses most_accesses };
 
     ghost always = { λ bus. tt };

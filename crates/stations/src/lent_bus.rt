@@ -26,7 +26,7 @@ pub struct LentBus<'a, 't, O: Observer> {
     pub observer: &'a mut O,
     // The host exists.
     ghost there: { host < length stations.now },
-    // The observer has room for the outcome of each tick.
+    // The observer has room for the outcome of each tick that is still to be played.
     ghost room: { length ticks.now ≤ O.room_left observer.now },
 }
 
@@ -38,6 +38,7 @@ impl<'a, 't, O: Observer> LentBus<'a, 't, O> {
     pub(crate) fn prepare(&mut self)
         ensures { PreparedLent self.old self.new }
     {
+        // Without ticks, only the access is counted.
         if self.ticks.is_empty() {
             self.accesses = self.accesses.saturating_add(1);
             return;

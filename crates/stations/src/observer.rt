@@ -19,7 +19,7 @@ pub trait Observer {
 
     /// Reports to the observer that this tick was played, with this outcome, after `accesses` accesses of the call.
     /// `frame` is the frame that was put or delivered, of at most 1,518 bytes. For other outcomes, `frame` has no
-    /// meaning.
+    /// meaning. The observer must have room for one more outcome, and its room decreases by at most one outcome.
     fn note(&mut self, tick: Tick, accesses: u64, outcome: Outcome<()>, frame: &[u8])
         requires room { 0 < room_left self.old }
         requires fits { length frame.now ≤ longest_frame }
@@ -38,6 +38,7 @@ pub struct Nobody;
 impl Observer for Nobody {
     ghost use Rattle.std.specs.Prelude.{⊤};
 
+    // Nothing is stated of what `Nobody` was told.
     ghost heard = { λ before after told. ⊤ };
 
     // 2^64, which is more than the length of any list of ticks.

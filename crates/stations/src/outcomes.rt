@@ -103,6 +103,7 @@ impl Observer for Outcomes {
     } };
 
     fn note(&mut self, _tick: Tick, accesses: u64, outcome: Outcome<()>, frame: &[u8]) {
+        // The precondition `room` of `Observer::note` ensures that there is a spare frame.
         if let Some(mut kept) = self.spare.pop() {
             kept.fill(frame);
             let outcome = outcome.with_frame(kept);

@@ -15,7 +15,7 @@ use adapter::{Outcome, StepKind};
 
 impl Stations {
     /// Plays a tick. The observer is told the tick's outcome, with the number of accesses that the call made before
-    /// the tick.
+    /// the tick. The observer must have room for one more outcome.
     #[inline(always)]
     pub fn play<O: Observer>(&mut self, tick: Tick, accesses: u64, observer: &mut O)
         requires room { 0 < O.room_left observer.old }
@@ -30,7 +30,8 @@ impl Stations {
     }
 
     /// Plays a step of a host's adapter. If there is no such host, the outcome is `Nothing`. Other stations change only
-    /// if the step puts a frame (TxPut): the frame then waits at the other ends of the wire.
+    /// if the step puts a frame (TxPut): the frame then waits at the other ends of the wire. The observer must have
+    /// room for one more outcome.
     #[inline(always)]
     fn play_step<O: Observer>(
         &mut self,
@@ -58,8 +59,9 @@ impl Stations {
         }
     }
 
-    /// Plays the step TxPut of a host's adapter. If there is a frame to put, and another end of the wire has no room,
-    /// the outcome is `WireFull`. A frame that the step puts waits at each other end.
+    /// Plays the step TxPut of a host's adapter. The host must exist. If there is no frame to put, the outcome is
+    /// `Nothing`. If there is a frame, but another end of the wire has no room, the outcome is `WireFull`. A frame that
+    /// the step puts waits at each other end. The observer must have room for one more outcome.
     #[inline(never)]
     fn put<O: Observer>(&mut self, host: usize, accesses: u64, observer: &mut O)
         requires there { host < length self.old }
@@ -80,12 +82,12 @@ impl Stations {
         }
         observer.note(tick, accesses, Outcome::Put(()), frame);
         self.wires.put(host, frame);
-        // The wire is free.
+        // The wire is free, so the outcome is `Put`, which the observer was told before.
         self.machines[host].step(StepKind::TxPut, true);
     }
 
     /// Delivers the oldest frame that waits at a host's end. If no frame waits, or there is no such host, the outcome
-    /// is `Nothing`.
+    /// is `Nothing`. The observer must have room for one more outcome.
     #[inline(never)]
     fn deliver<O: Observer>(&mut self, host: usize, accesses: u64, observer: &mut O)
         requires room { 0 < O.room_left observer.old }
@@ -107,7 +109,8 @@ impl Stations {
     }
 
     /// Plays the ticks up to the next `Go`, and returns the ticks after this `Go`. If there is no `Go`, plays all
-    /// ticks, and returns no tick. The observer is told each outcome, with the number `accesses`.
+    /// ticks, and returns no tick. The observer is told each outcome, with the number `accesses`. The observer must
+    /// have room for one outcome for each of `ticks`, and then has room for those that are returned.
     #[inline(never)]
     pub(crate) fn play_group<'t, O: Observer>(
         &mut self,
@@ -132,7 +135,8 @@ impl Stations {
         rest
     }
 
-    /// Plays all ticks except each `Go`, in order. The observer is told each outcome, with the number `accesses`.
+    /// Plays all ticks except each `Go`, in order. The observer is told each outcome, with the number `accesses`. The
+    /// observer must have room for one outcome for each of `ticks`.
     #[inline(never)]
     pub fn play_rest<O: Observer>(&mut self, ticks: &[Tick], accesses: u64, observer: &mut O)
         requires room { length ticks.now ≤ O.room_left observer.old }

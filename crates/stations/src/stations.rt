@@ -11,7 +11,8 @@ use std::alloc::{AllocError, Global};
 use std::marker::Model;
 
 /// The stations of a network. Each host has a station: its adapter with the host's memory, and its end of a wire.
-/// Stations are numbered from 0, in the order in which they were connected.
+/// Stations are numbered from 0, in the order in which they were connected. A host that is passed as `host` must exist,
+/// unless the call's comment states the outcome for other hosts.
 ///
 /// In contracts, the value is a list of `StationState` (`specs/Stations.antt`).
 #[derive(Drop)]
@@ -142,8 +143,9 @@ impl Stations {
     }
 
     /// Appends to `sending` the frames that a host has still to send. Appends to `holding` the received frames in the
-    /// host's receive ring and receive packet buffer. `oldest` is the oldest receive slot. See
-    /// [`Adapter::pending`](adapter::Adapter::pending).
+    /// host's receive ring, from the slot `oldest` on, and in its receive packet buffer. Both lists must have room for
+    /// these frames. The rings and the bytes of these frames must be inside memory, and no frame may exceed 1,518
+    /// bytes. See [`Adapter::pending`](adapter::Adapter::pending).
     pub fn pending(
         &self,
         host: usize,
@@ -164,7 +166,8 @@ impl Stations {
         self.machine(host).pending(oldest, sending, holding);
     }
 
-    /// Performs one step of a host's adapter, other than TxPut. No other station and no wire changes.
+    /// Performs one step of a host's adapter, which mustn't be TxPut, and returns the outcome. No other station and no
+    /// wire changes.
     pub fn step(&mut self, host: usize, kind: StepKind) -> Outcome<()>
         requires there { host < length self.old }
         requires stays { kind ≢ TxPut }
@@ -189,7 +192,7 @@ impl Stations {
         self.wires.entries(host)
     }
 
-    /// Returns whether a host's interrupt line is asserted.
+    /// Returns whether a host's interrupt line is asserted: a recorded cause is in the mask.
     pub fn line(&self, host: usize) -> bool
         requires there { host < length self.now }
         ensures line { IsTrue result ↔ Meet (world_at self.now host).adapter.causes.recorded
@@ -199,7 +202,7 @@ impl Stations {
         self.machine(host).line()
     }
 
-    /// Reads a register of a host's adapter. No other station and no wire changes.
+    /// Reads a register of a host's adapter, and returns its value. No other station and no wire changes.
     pub(crate) fn read(&mut self, host: usize, offset: u32) -> u32
         requires there { host < length self.old }
         ensures answer { result ≡ answer_at offset (world_at self.old host).adapter }
@@ -218,7 +221,7 @@ impl Stations {
         self.machines[host].write(offset, value);
     }
 
-    /// Fills `into` with the bytes at an address of a host's memory.
+    /// Fills `into` with the bytes from an address of a host's memory on. The bytes must be in memory.
     pub(crate) fn load(&self, host: usize, address: u64, into: &mut [u8])
         requires there { host < length self.now }
         requires lies { LiesIn (world_at self.now host).memory address (length into.old) }
@@ -228,7 +231,8 @@ impl Stations {
         self.machine(host).load(address, into);
     }
 
-    /// Stores bytes at an address of a host's memory. No other station and no wire changes.
+    /// Stores bytes from an address of a host's memory on. The bytes must be in memory. No other station and no wire
+    /// changes.
     pub(crate) fn store(&mut self, host: usize, address: u64, bytes: &[u8])
         requires there { host < length self.old }
         requires lies { LiesIn (world_at self.old host).memory address (length bytes.now) }

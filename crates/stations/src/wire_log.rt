@@ -91,7 +91,7 @@ impl WireLog {
         None
     }
 
-    /// Returns the frame of the entry at this place.
+    /// Returns the frame of the entry at this place, which must exist.
     pub(crate) fn frame(&self, place: usize) -> &[u8]
         requires there { place < length self.now }
         ensures value { result.now ≡ entry_frame place self.now }
@@ -112,14 +112,15 @@ impl WireLog {
         Some(self.frame(place))
     }
 
-    /// Drops all entries before `first`, and the entries before `second` that `reader` sent. Let `first` be the least
-    /// cursor, at the end `reader`, and `second` the least cursor of the other ends. Then each end has read the dropped
-    /// entries of other senders.
+    /// Drops all entries before `first`, and the entries before `second` that `reader` sent. `first` must be at most
+    /// `second`, and `second` at most the number of entries. Let `first` be the least cursor, at the end `reader`, and
+    /// `second` the least cursor of the other ends. Then each end has read the dropped entries of other senders.
     pub(crate) fn close_up(&mut self, reader: usize, first: usize, second: usize)
         requires order { first ≤ second }
         requires there { second ≤ length self.old }
         ensures { self.new ≡ closed_up reader first second self.old }
     {
+        // The first `kept` entries are those that remain, in order.
         let mut kept = 0;
         for place in first..self.entries.len() {
             if place >= second || self.entries[place].0 != reader {

@@ -72,7 +72,7 @@ fn log_of(ends: &[End], wire: usize) -> Option<usize>
 }
 
 /// Returns the index of the log for the next end of a wire: the log of the wire's ends, or a new log if the wire has no
-/// ends.
+/// ends. Each end must read a log of `logs`. Two ends must read the same log exactly if they are on the same wire.
 ///
 /// # Errors
 ///
@@ -137,7 +137,7 @@ fn least_cursor(ends: &[End], log: usize, but: usize, most: usize) -> usize
     least
 }
 
-/// Subtracts the number of dropped entries from the cursor of each end that reads a log; a smaller cursor becomes 0.
+/// Subtracts `dropped` from the cursor of each end that reads a log. A cursor below `dropped` becomes 0.
 fn move_cursors(ends: &mut [End], log: usize, dropped: usize)
     ensures { (k : ℕ) → slice_get ends.new k ≡ option_map (moved_cursor log dropped) (slice_get ends.old k) }
 {
@@ -148,8 +148,9 @@ fn move_cursors(ends: &mut [End], log: usize, dropped: usize)
     }
 }
 
-/// Makes room for an entry in a log. If the log is full, drops each entry that all ends have read, except perhaps the
-/// end that sent the entry.
+/// Makes room for an entry in a log, which the sender's end must read. If the log is full, drops each entry that all
+/// ends except its sender's have read, and moves the cursors. Each end that reads the log must have a cursor in the log
+/// and count its waiting frames (`ReadIn`). The same frames wait as before.
 fn make_room(ends: &mut [End], wire_log: &mut WireLog, log: usize, sender: usize)
     requires there { IsReader log ends.old sender }
     requires reads { ReadIn log wire_log.old ends.old }
@@ -161,11 +162,13 @@ fn make_room(ends: &mut [End], wire_log: &mut WireLog, log: usize, sender: usize
     }
     let reader = slowest(ends, log, sender);
     let second = least_cursor(ends, log, reader, entries);
+    // The frame of each remaining entry waits at the end `reader` or, if `reader` sent the frame, at an end with the
+    // cursor `second`. At most `END_FRAMES` frames wait at each end, so fewer than `LOG_ENTRIES` entries remain.
     wire_log.close_up(reader, ends[reader].cursor, second);
     move_cursors(ends, log, entries - wire_log.len());
 }
 
-/// Counts one more waiting frame at each end that reads a log, except the sender's.
+/// Counts one more waiting frame at each end that reads a log, except the sender's. Each of these ends must have room.
 fn count_waiting(ends: &mut [End], log: usize, sender: usize)
     requires room { (k : ℕ) (end : End) → slice_get ends.old k ≡ Some end → k ≢ sender → end.log ≡ log
         → end.waiting < END_FRAMES }
@@ -178,7 +181,8 @@ fn count_waiting(ends: &mut [End], log: usize, sender: usize)
     }
 }
 
-/// Appends a sender's frame to a log. The frame then waits at each other end that reads the log.
+/// Appends a sender's frame to a log, which the sender's end must read. The frame then waits at each other end that
+/// reads the log. Each of these ends must have room. The ends must read the log as `make_room` requires.
 fn put_frame(ends: &mut [End], wire_log: &mut WireLog, log: usize, sender: usize, frame: &[u8])
     requires there { IsReader log ends.old sender }
     requires reads { ReadIn log wire_log.old ends.old }

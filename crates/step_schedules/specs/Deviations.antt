@@ -51,21 +51,25 @@ is_choose word = bytes_eq word (codes "choose")
 abbrev pub choice_in : Text → Option Action
 choice_in word = option_map Choose (digits_in word)
 
+-- the action that two words name, if there is one
 abbrev pub action_of_two : (first second : Text) → Option Action
 action_of_two first second =
     if is_hold first then hold_named second else if is_choose first then choice_in second else None
 
+-- the action that these words name, if there is one
 abbrev pub action_in : List Text → Option Action
 action_in words =
     if length words == 1 then action_named (word 0 words)
     else if length words == 2 then action_of_two (word 0 words) (word 1 words)
     else None
 
+-- whether an action begins with this word
 abbrev pub begins_action : Text → Bool
 begins_action word = is_some (action_named word) || is_hold word || is_choose word
 
 -- The place at the beginning of a line.
 
+-- the place of a word, if there is one; no place if the word begins an action; else a fault
 abbrev pub place_or_action : Option Place → Text → Result (Option Place) Fault
 place_or_action (Some place) word = Ok (Some place)
 place_or_action None word = if begins_action word then Ok None else Err faults.Place
@@ -81,6 +85,7 @@ words_after_place (Some place) words = drop 1 words
 
 -- The access or the request at the end of a line.
 
+-- the kind of access that a word names, if there is one
 unfoldable pub event_kind_named : Text → Option Before
 event_kind_named word = value_in ((codes "read", Read) ∷ (codes "write", Write) ∷ []) word
 
@@ -141,6 +146,7 @@ is_place_of Read place = nat_lt 0 place.access
 is_place_of Write place = nat_lt 0 place.access
 is_place_of Choice place = nat_lt 0 place.access
 
+-- the site at a place; a place at which no access or request of this kind can be is a fault
 abbrev pub place_before : Place → Before → Result Site Fault
 place_before place before = if is_place_of before place then Ok (site.Place place) else Err faults.RequestPlace
 
@@ -164,7 +170,8 @@ takes Request action = not (is_choice action)
 takes Read action = not (is_choice action)
 takes Write action = not (is_choice action)
 
--- The site of a deviation, from the place and the last word of its line. An action that may not be before this kind is a fault.
+-- The site of a deviation, from the place and the last word of its line. An action that may not be before an access or a request of this
+-- kind is a fault.
 abbrev pub site_at : Option Place → Action → Before → Text → Result Site Fault
 site_at place action before word = do
   number ← named_number word
@@ -194,14 +201,14 @@ abbrev pub action_or_fault : Option Action → Result Action Fault
 action_or_fault (Some action) = Ok action
 action_or_fault None = Err faults.Action
 
--- the deviation of a line without its name, from its place, the words after `before`, and its action
+-- the deviation of a line, except its name, from its place, the words after `before`, and its action
 abbrev pub nameless_at : Option Place → (event : List Text) → Action → Result Nameless Fault
 nameless_at place event action = do
   before ← before_or_fault (before_in event)
   site ← site_at place action before (last_word event)
   Ok (record { site = site; action = action; before = before })
 
--- the deviation of a line without its name, from its place and the words before and after `before`
+-- the deviation of a line, except its name, from its place and the words before and after `before`
 abbrev pub nameless_in : Option Place → (action event : List Text) → Result Nameless Fault
 nameless_in place action event = action_or_fault (action_in action) >>= nameless_at place event
 

@@ -6,6 +6,7 @@ use Rattle.step_schedules.specs.declared.schedule_error.ScheduleError.TheVariant
 use Rattle.step_schedules.specs.declared.schedule_error.Stop.{Stop}
 use Rattle.step_schedules.specs.declared.schedule_error.Stop.TheVariants.{Fault, Memory}
 
+-- Reading a line stopped because memory was refused, or because of a fault; in the second case, `read` is the same fault.
 abbrev pub FailsLine : {A : Type 0} → Stop → Result A LineFault → Type 0
 FailsLine Memory read = ⊤
 FailsLine (Fault fault) read = read ≡ Err fault

@@ -24,25 +24,32 @@ use Rattle.step_schedules.specs.declared.schedule_error.Stop.{Stop}
 pub record ScheduleValue : Type 0 where
   -- the words of the server's options, if the text has them
   pub options : Option (List Text)
+  -- the deviations, in the order of the text
   pub deviations : List DeviationValue
 
--- the part of a schedule that was read, and the place of the last deviation with a place, or 0.0
+-- the part of a schedule that was read so far
 pub record ScheduleSoFar : Type 0 where
+  -- the options and the deviations
   pub schedule : ScheduleValue
+  -- the place of the last deviation with a place, or 0.0 if there is none
   pub last : Place
 
+-- the server's options, as texts
 abbrev pub option_texts : Vec (String Global) Global → List Text
 option_texts options = map string_bytes options.items
 
+-- a schedule as plain data
 abbrev pub schedule_value : Schedule → ScheduleValue
 schedule_value schedule = record {
   options = option_map option_texts schedule.options;
   deviations = map deviation_value schedule.deviations.items;
 }
 
+-- what a reader has read, as plain data
 abbrev pub schedule_so_far : Reader → ScheduleSoFar
 schedule_so_far reader = record { schedule = schedule_value reader.schedule; last = reader.last }
 
+-- the state before the first line
 abbrev pub no_schedule_read : ScheduleSoFar
 no_schedule_read = record {
   schedule = record { options = None; deviations = [] };
@@ -53,6 +60,7 @@ no_schedule_read = record {
 abbrev pub has_begun : ScheduleValue → Bool
 has_begun schedule = is_some schedule.options || nat_lt 0 (length schedule.deviations)
 
+-- what was read after a line `options`; the line is a fault if an earlier line has words
 abbrev pub after_options : List Text → ScheduleSoFar → Result ScheduleSoFar Fault
 after_options words before =
     if has_begun before.schedule then Err faults.Options
@@ -63,6 +71,7 @@ abbrev pub place_after : Site → Place → Result Place Fault
 place_after (site.Place place) last = if is_before place last then Err faults.Order else Ok place
 place_after (site.Number number) last = Ok last
 
+-- what was read after a deviation, which is the last one; a place before the last place is a fault
 abbrev pub after_deviation : DeviationValue → ScheduleSoFar → Result ScheduleSoFar Fault
 after_deviation deviation before = do
   last ← place_after deviation.site before.last
@@ -82,6 +91,7 @@ after_line_words (first ∷ rest) before =
     if bytes_eq first (codes "options") then after_options (first ∷ rest) before
     else after_deviation_in (first ∷ rest) before
 
+-- what was read after a line, or the line's fault
 abbrev pub after_schedule_line : Text → ScheduleSoFar → Result ScheduleSoFar Fault
 after_schedule_line line before = after_line_words (words_before_comment line) before
 
@@ -117,10 +127,12 @@ abbrev pub AreLinesRead : Result ScheduleSoFar (ℕ × Fault) → Result (Unit {
 AreLinesRead read (Ok u) after = read ≡ Ok after
 AreLinesRead read (Err error) after = StopsReading error read
 
+-- The reader contains what was read of the text; or the error is that of `StopsReading`.
 abbrev pub IsTextRead : Text → Result Reader ScheduleError → Type 0
 IsTextRead text (Ok reader) = read_in text ≡ Ok (schedule_so_far reader)
 IsTextRead text (Err error) = StopsReading error (read_in text)
 
+-- the schedule that was read, or the first fault and its line
 abbrev pub schedule_of : Result ScheduleSoFar (ℕ × Fault) → Result ScheduleValue (ℕ × Fault)
 schedule_of (Ok read) = Ok read.schedule
 schedule_of (Err fault) = Err fault

@@ -27,10 +27,12 @@ action_words EepromTick = codes "eeprom"
 action_words PhyTick = codes "phy"
 action_words (Choose number) = codes "choose"
 
+-- the words of an action, with the number of a choice
 abbrev pub action_text : Action → Text
 action_text (Choose number) = codes "choose" ++ codes " " ++ decimal number
 action_text action = action_words action
 
+-- the part of a line from `before` to the name
 abbrev pub before_text : Before → Text
 before_text Read = codes "before read "
 before_text Write = codes "before write "
@@ -42,6 +44,7 @@ abbrev pub deviation_event_text : DeviationValue → Text
 deviation_event_text deviation =
     action_text deviation.action ++ codes " " ++ before_text deviation.before ++ deviation.name
 
+-- the line of a deviation: its place and then the other text, or this text and then # and its number
 abbrev pub text_at : Site → Text → Text
 text_at (site.Place place) event = decimal place.round ++ codes "." ++ decimal place.access ++ codes " " ++ event
 text_at (site.Number number) event = event ++ codes "#" ++ decimal number
@@ -65,6 +68,7 @@ option_text option = codes " " ++ option
 abbrev pub options_line : List Text → Text
 options_line options = codes "options" ++ flat_map option_text options ++ codes "\n"
 
+-- the line of the server's options, or no text if there are no options
 abbrev pub options_text : Option (List Text) → Text
 options_text (Some options) = options_line options
 options_text None = []

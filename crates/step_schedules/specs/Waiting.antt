@@ -18,6 +18,7 @@ pub record WaitingValue : Type 0 where
 abbrev pub waiting_value : Waiting → WaitingValue
 waiting_value waiting = record { deviation = deviation_value waiting.deviation; left = waiting.left }
 
+-- the number of matching events up to the one before which a deviation is due: 1 for a place
 abbrev pub left_at : Site → ℕ
 left_at (site.Place place) = 1
 left_at (site.Number number) = number
@@ -54,5 +55,6 @@ is_unmet waiting = nat_lt 0 waiting.left
 abbrev pub deviation_of : WaitingValue → DeviationValue
 deviation_of waiting = waiting.deviation
 
+-- the deviations that haven't been due yet
 abbrev pub unmet_in : List WaitingValue → List DeviationValue
 unmet_in waiting = map deviation_of (filter is_unmet waiting)

@@ -81,7 +81,8 @@ impl Held {
     }
 }
 
-/// Returns the number that an action chooses, or 0 if the action chooses no number.
+/// Returns the number that an action chooses, or 0 if the action chooses no number. The same number is `chosen` for
+/// every list of actions that begins with this action.
 fn chosen_by(action: Action) -> u32
     ensures { (later : List Action) → result ≡ chosen (action ∷ later) }
 {

@@ -103,7 +103,7 @@ fn place_at(word: &str) -> Result<Option<Place>, Fault>
     }
 }
 
-/// Returns the words after the place, or all words if the line has no place.
+/// Returns the words after the place, or all words if the line has no place. There must be at least one word.
 fn words_after<'a, 'b>(place: Option<Place>, words: &'b [&'a str]) -> &'b [&'a str]
     requires { 0 < length words.now }
     ensures { texts result.now ≡ spec.words_after_place place (texts words.entry.now) }
@@ -139,7 +139,9 @@ fn number_after(word: &str) -> Result<Option<u32>, Fault>
     }
 }
 
-/// Returns the kind of the request that one word names, or of the access that two words name, or else `None`.
+/// Returns the kind of the access or the request that these words name, or `None` for other words. A request is one
+/// word, which may have a number after `#`. An access is two words: the word of its kind, and a name, which isn't
+/// checked.
 #[tactic(auto, unfolding(crate::specs::Deviations::event_kind_named, crate::specs::Deviations::request_named))]
 fn before_of(words: &[&str]) -> Option<Before>
     ensures { result ≡ spec.before_in (texts words.now) }
@@ -153,7 +155,7 @@ fn before_of(words: &[&str]) -> Option<Before>
     None
 }
 
-/// As [`number_after`], but also rejects an empty name.
+/// Returns what [`number_after`] returns, but also rejects an empty name.
 fn named_number(word: &str) -> Result<Option<u32>, Fault>
     ensures { result ≡ spec.named_number word.now }
 {
@@ -217,8 +219,9 @@ fn takes(before: Before, action: Action) -> bool
     }
 }
 
-/// Returns the site of a deviation, from the place and the last word of its line. Rejects an action that may not be
-/// before this kind.
+/// Returns the site of a deviation, from the place and the last word of its line. Rejects what [`named_number`]
+/// rejects, then an action that may not be before an access or request of the kind `before`, and then what [`site_of`]
+/// rejects.
 fn site_at(place: Option<Place>, action: Action, before: Before, word: &str) -> Result<Site, Fault>
     ensures { result ≡ spec.site_at place action before word.now }
 {
@@ -247,7 +250,8 @@ fn last_word<'a>(words: &[&'a str]) -> &'a str
     word_at(words, words.len() - 1)
 }
 
-/// Returns the deviation of a line without its name, from the place, the action, and the words after `before`.
+/// Returns the deviation of a line, except its name, from the place, the action, and the words after `before`. Rejects
+/// words that name no access and no request, and then what [`site_at`] rejects.
 fn nameless_at(place: Option<Place>, action: Action, event: &[&str]) -> Result<Nameless, Fault>
     ensures { result ≡ spec.nameless_at place (texts event.now) action }
 {
@@ -262,7 +266,8 @@ fn nameless_at(place: Option<Place>, action: Action, event: &[&str]) -> Result<N
     })
 }
 
-/// Returns the deviation of a line without its name, from the place and the words before and after `before`.
+/// Returns the deviation of a line, except its name, from the place and the words before and after `before`. Rejects
+/// words before `before` that name no action, and then what [`nameless_at`] rejects.
 fn nameless_of(place: Option<Place>, action: &[&str], event: &[&str]) -> Result<Nameless, Fault>
     ensures { result ≡ spec.nameless_in place (texts action.now) (texts event.now) }
 {
@@ -273,7 +278,7 @@ fn nameless_of(place: Option<Place>, action: &[&str], event: &[&str]) -> Result<
 }
 
 impl Nameless {
-    /// Returns the deviation with a copy of this name.
+    /// Returns the deviation with a copy of this name. Fails only if memory was refused.
     fn with_name(self, alloc: Global, name: &str) -> Result<Deviation, Stop>
         ensures { GivesView spec.deviation_value result (spec.with_name name.now self) }
     {
@@ -287,7 +292,7 @@ impl Nameless {
     }
 }
 
-/// Returns the deviation of a line, from its place and the words after the place.
+/// Returns the deviation of a line, from its place and the words after the place. Rejects what [`nameless_of`] rejects.
 fn deviation_after(alloc: Global, place: Option<Place>, words: &[&str]) -> Result<Deviation, Stop>
     ensures { GivesView spec.deviation_value result (spec.deviation_after place (texts words.now)) }
 {
@@ -296,7 +301,8 @@ fn deviation_after(alloc: Global, place: Option<Place>, words: &[&str]) -> Resul
     nameless.with_name(alloc, name_of(last_word(event)))
 }
 
-/// Returns the deviation of a line, from its words, of which there is at least one.
+/// Returns the deviation of a line, from its words. There must be at least one word. Rejects what [`place_at`] rejects,
+/// and then what [`nameless_of`] rejects.
 pub(crate) fn deviation_of(alloc: Global, words: &[&str]) -> Result<Deviation, Stop>
     requires { 0 < length words.now }
     ensures { GivesView spec.deviation_value result (spec.deviation_in (texts words.now)) }

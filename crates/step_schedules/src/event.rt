@@ -21,8 +21,11 @@ pub struct Event<'a> {
 /// The access or the request that began last, if there is one.
 #[derive(Drop)]
 pub(crate) struct Past {
+    /// The place, or 0.0 before the run.
     pub(crate) place: Place,
+    /// The kind.
     pub(crate) before: Before,
+    /// The name of what is accessed, or the word of the request.
     pub(crate) name: String,
 }
 
@@ -38,7 +41,8 @@ impl Clone for Past {
     }
 }
 
-/// Returns the place of the access or request of this kind that comes next after this place.
+/// Returns the place of the access or request of this kind that comes next after this place. Numbers end at the
+/// greatest `u32`.
 pub(crate) fn next_place(place: Place, before: Before) -> Place
     ensures { result ≡ spec.next_place before place }
 {
@@ -55,7 +59,7 @@ pub(crate) fn next_place(place: Place, before: Before) -> Place
 }
 
 impl Past {
-    /// Returns the state before the run: no access and no request has begun.
+    /// Returns the state before the run: no access and no request has begun. The kind `Read` has no meaning.
     pub(crate) fn none(alloc: Global) -> Past
         ensures { spec.past_value result ≡ spec.no_event }
     {

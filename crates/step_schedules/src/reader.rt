@@ -38,7 +38,8 @@ impl Reader {
         }
     }
 
-    /// Stores the options of a line `options`. Rejects the line if this line isn't the first line with words.
+    /// Stores the options of a line: the words after its first word, `options`. There must be at least one word.
+    /// Rejects the line if an earlier line has words.
     fn set_options(&mut self, alloc: Global, words: &[&str]) -> Result<(), Stop>
         requires { 0 < length words.now }
         ensures { spec.Becomes result (spec.after_options (texts words.now) (spec.schedule_so_far self.old))
@@ -69,7 +70,8 @@ impl Reader {
             .map_err(|_refused| Stop::Memory)
     }
 
-    /// Reads the words of a line that describes a deviation, and appends this deviation.
+    /// Appends the deviation that the words of a line describe. There must be at least one word. Rejects what
+    /// [`deviation_of`] rejects, and then what [`push`](Reader::push) rejects.
     fn read_deviation(&mut self, alloc: Global, words: &[&str]) -> Result<(), Stop>
         requires { 0 < length words.now }
         ensures { spec.Becomes result (spec.after_deviation_in (texts words.now) (spec.schedule_so_far self.old))
@@ -79,7 +81,7 @@ impl Reader {
         self.push(deviation)
     }
 
-    /// Reads the words of a line: no words, the server's options, or a deviation.
+    /// Reads the words of a line: no words, which change nothing; the server's options; or a deviation.
     fn read_words(&mut self, alloc: Global, words: &[&str]) -> Result<(), Stop>
         ensures { spec.Becomes result (spec.after_line_words (texts words.now) (spec.schedule_so_far self.old))
             (spec.schedule_so_far self.new) }
@@ -93,7 +95,7 @@ impl Reader {
         self.read_deviation(alloc, words)
     }
 
-    /// Reads a line.
+    /// Reads a line up to its comment, as [`read_words`](Reader::read_words) does.
     fn read_line(&mut self, alloc: Global, line: &str) -> Result<(), Stop>
         ensures { spec.Becomes result (spec.after_schedule_line line.now (spec.schedule_so_far self.old))
             (spec.schedule_so_far self.new) }
@@ -102,7 +104,8 @@ impl Reader {
         self.read_words(alloc, words.as_slice())
     }
 
-    /// Reads lines, numbered from 1. Stops at the first faulty line, and returns the error of this line.
+    /// Reads lines, numbered from 1. Stops at the first line that is faulty, or for which memory is refused, and
+    /// returns the error of this line.
     fn read_lines(&mut self, alloc: Global, lines: &[&str]) -> Result<(), ScheduleError>
         ensures { spec.AreLinesRead (spec.after_lines (texts lines.now) 1 (spec.schedule_so_far self.old)) result
             (spec.schedule_so_far self.new) }
@@ -117,7 +120,7 @@ impl Reader {
         Ok(())
     }
 
-    /// Reads all lines of a text.
+    /// Reads all lines of a text. Fails at the first faulty line, or if memory was refused.
     pub(crate) fn read(alloc: Global, text: &str) -> Result<Reader, ScheduleError>
         ensures { spec.IsTextRead text.now result }
     {

@@ -6,7 +6,7 @@ ghost use Rattle.step_schedules.specs.Spellings as spec;
 use crate::deviation::Place;
 use text::digits_of;
 
-/// The maximum number of digits of a number.
+/// The maximum number of digits of a number. So each number fits in 32 bits.
 const MOST_DIGITS: usize = 9;
 
 const DECIMAL: u32 = 10;

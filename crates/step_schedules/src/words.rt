@@ -14,14 +14,14 @@ pub(crate) fn lines_in<'a>(alloc: Global, text: &'a str) -> Result<Vec<&'a str>,
     text.lines().collect(alloc)
 }
 
-/// Returns whether a word is before the comment of a line: it doesn't begin with `#`.
+/// Returns whether a word doesn't begin with `#`. The first word of a comment begins with `#`.
 fn is_said(word: &str) -> bool
     ensures { result ≡ spec.is_said word.now }
 {
     !word.starts_with('#')
 }
 
-/// Returns the number of words before a comment, or of all words if there is no comment.
+/// Returns the number of words before the comment of a line, or of all words if there is no comment.
 #[tactic(auto, using(std::proofs::lemmas::List::Sums::prefix_len_is))]
 fn said_count(words: &[&str]) -> usize
     ensures { result ≡ prefix_len spec.is_said (spec.texts words.now) }
@@ -33,7 +33,7 @@ fn said_count(words: &[&str]) -> usize
     count
 }
 
-/// Returns the words of a line, up to a comment.
+/// Returns the words of a line that are before its comment, or all words if there is no comment.
 pub(crate) fn words_in<'a>(alloc: Global, line: &'a str) -> Result<Vec<&'a str>, AllocError>
     ensures { IfOk result (λ words. spec.texts words.items ≡ spec.words_before_comment line.entry.now) }
 {

@@ -7,6 +7,7 @@ use Rattle.std.specs.Char.{digit_value}
 unfoldable pub hexadecimal_value : ℕ → ℕ
 hexadecimal_value c = digit_value c
 
+-- The character is a hexadecimal digit, in either case.
 abbrev pub IsHexadecimalDigit : ℕ → Type 0
 IsHexadecimalDigit c = hexadecimal_value c < 16
 

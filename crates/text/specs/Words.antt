@@ -30,6 +30,7 @@ words_of line = filter is_word (flat_map (slice_split is_tab) (slice_split is_sp
 abbrev pub word : ℕ → List Text → Text
 word k words = slice_index_or words k []
 
+-- Whether a word is `mark`.
 abbrev pub is_same : (mark word : Text) → Bool
 is_same mark word = bytes_eq word mark
 

@@ -10,7 +10,7 @@ const ADDRESS_BYTES: usize = 6;
 /// The number of characters of an address's text: six pairs of digits and five colons.
 const ADDRESS_TEXT_LENGTH: usize = 17;
 
-/// The base of hexadecimal numbers.
+/// The radix of hexadecimal numbers.
 const HEXADECIMAL: u32 = 16;
 
 /// Returns the value of a hexadecimal digit in either case. Returns `None` for any other character.
@@ -45,6 +45,7 @@ pub fn address_of(text: &str) -> Option<[u8; 6]>
     }
     let mut address = [0; ADDRESS_BYTES];
     for k in 0..ADDRESS_BYTES {
+        // A colon follows each pair except the last.
         if k + 1 < ADDRESS_BYTES && text[3 * k + 2] != b':' {
             return None;
         }

@@ -8,7 +8,8 @@ const DECIMAL: u32 = 10;
 const HEXADECIMAL: u32 = 16;
 
 /// Returns the number that a text spells in this radix, if the text is one or more digits and the number is below 2^64.
-/// Otherwise returns `None`. Digits above 9 are letters of either case. Leading zeros are allowed, a sign isn't.
+/// Otherwise returns `None`. Digits above 9 are letters of either case. Leading zeros are allowed, a sign isn't. The
+/// radix must be from 2 to 36.
 #[tactic(auto, using(crate::proofs::Numbers::bad_digit, crate::proofs::Numbers::overflows))]
 pub fn digits_of(text: &str, radix: u32) -> Option<u64>
     requires low { 2 ≤ radix }
@@ -31,6 +32,7 @@ pub fn digits_of(text: &str, radix: u32) -> Option<u64>
 pub fn number_of(text: &str) -> Option<u64>
     ensures { result ≡ number_spelled text.now }
 {
+    // `x` is no decimal digit, so only a hexadecimal number contains one.
     match text.split_once('x') {
         Some((front, digits)) => if front == "0" {
             digits_of(digits, HEXADECIMAL)

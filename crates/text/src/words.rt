@@ -9,6 +9,7 @@ use std::alloc::{AllocError, Global};
 pub fn words_in<'a>(alloc: Global, line: &'a str) -> Result<Vec<&'a str>, AllocError>
     ensures { IfOk result (λ words. texts words.items ≡ words_of line.entry.now) }
 {
+    // A part between two neighbouring separators is empty, and isn't a word.
     line.split(' ')
         .flat_map(|part| part.split('\t'))
         .filter(|word| !word.is_empty())

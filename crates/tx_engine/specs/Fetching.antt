@@ -23,7 +23,7 @@ transmit_descriptor_at memory address = tx_desc_of (bytes_at memory address 16)
 abbrev pub named_by : List ℕ → TxDesc → List ℕ
 named_by memory desc = bytes_at memory desc.address desc.length
 
--- A frame as it is put onto the wire. If the adapter pads, the frame is followed by zeros up to 60 bytes.
+-- A frame as it is put onto the wire. If `pad` is true, the frame is followed by zeros up to 60 bytes.
 abbrev pub as_sent : Bool → List ℕ → List ℕ
 as_sent pad frame = if pad then padded frame else frame
 

@@ -12,6 +12,7 @@ pub record CanBeCopied (memory : List ℕ) (descriptor : ℕ) : Type 0 where
   -- There are at most 1,518 bytes.
   pub short : (transmit_descriptor_at memory descriptor).length ≤ 1518
 
--- The frames of the offered descriptors, in the order of their slots from the head on, padded if the adapter pads.
+-- The frames of the offered descriptors, in the order of their slots from the head on. If the flag is true, each frame is padded to 60
+-- bytes.
 abbrev pub queued_in : Bool → List ℕ → Ring → List (List ℕ)
 queued_in pad memory ring = map (λ (slot : ℕ). frame_at pad memory (address_of ring slot)) (offered_places ring)

@@ -30,8 +30,8 @@ abbrev pub IfFront : List Queued → (Queued → Type 0) → Type 0
 IfFront [] P = Unit {0}
 IfFront (queued ∷ buffer) P = P queued
 
--- A frame was taken. The frame is the last one in the packet buffer, with the address of its descriptor, and the head has advanced by one
--- slot.
+-- A frame was taken: `moved` and `grown` are the ring and the engine after the step. The frame is the last one in the packet buffer, with
+-- the address of its descriptor, and the head has advanced by one slot.
 pub record Takes (control : ℕ) (memory : List ℕ) (ring moved : Ring) (engine grown : Transmitter) : Type 0 where
   -- The frame is at the end of the packet buffer.
   pub buffer : grown ≡ record engine { buffer = engine.buffer ++ fetched (pads control) memory (address_of ring ring.head) ∷ [] }

@@ -29,8 +29,8 @@ TakingMovesFrames =
     → to_send memory (record ring { head = next_of ring ring.head }) pad (buffer ++ fetched pad memory (address_of ring ring.head) ∷ [])
     ≡ to_send memory ring pad buffer
 
--- The oldest frame in the packet buffer is the first of the frames to be sent. The other frames to be sent are those without this frame in
--- the buffer.
+-- The oldest frame in the packet buffer is the first of the frames to be sent. The others are the frames to be sent after this frame is
+-- removed from the buffer.
 abbrev pub PuttingTakesFront : Type 0
 PuttingTakesFront =
     (memory : List ℕ) (ring : Ring) (pad : Bool) (queued : Queued) (buffer : List Queued)

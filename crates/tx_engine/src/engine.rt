@@ -28,7 +28,7 @@ pub struct TxEngine {
     frames: FrameQueue,
     /// For each frame in `frames`, the address and the RS bit of its descriptor.
     reports: HeapCircularBuffer<Report>,
-    /// Whether no fault has stopped the engine.
+    /// Whether no fault has stopped the engine. In contracts, `stopped` is the opposite.
     running: bool,
 }
 
@@ -122,7 +122,8 @@ impl TxEngine {
         self.frames.front()
     }
 
-    /// Returns the frame of the buffer with this index, without a copy. The oldest frame has index 0.
+    /// Returns the frame of the buffer with this index, without a copy. The oldest frame has index 0, and `index` must
+    /// be below the number of frames. The frame has at most 1,518 bytes.
     pub fn frame_at(&self, index: usize) -> &[u8]
         requires { index < length self.now.buffer }
         ensures frame { slice_get (map (λ queued. queued.frame) self.now.buffer) index ≡ Some result.now }
@@ -137,6 +138,7 @@ impl TxEngine {
     {
         self.is_stopped().hash(hasher);
         self.frames.feed(hasher);
+        // The reports in `wrapped` follow those in `front`.
         let (front, wrapped) = self.reports.as_slices();
         feed_reports(front, hasher);
         feed_reports(wrapped, hasher);
@@ -151,7 +153,7 @@ impl TxEngine {
 
     /// Appends a frame, with the address and the RS bit of its descriptor. If the frame has fewer than `least` bytes,
     /// zeros follow the frame up to this number of bytes. The buffer must not be full, and neither the frame nor
-    /// `least` may exceed 1,518 bytes. The address of the descriptor's status byte must fit into 64 bits.
+    /// `least` may exceed 1,518 bytes. The address of the descriptor's status byte, byte 12, must fit into 64 bits.
     pub(crate) fn push(&mut self, named: Named<'_>, least: usize)
         requires room { length self.old.buffer < 4 }
         requires fits { length named.bytes.now ≤ 1518 }
@@ -166,7 +168,7 @@ impl TxEngine {
         } }
     {
         self.frames.push_padded(named.bytes, least);
-        // There is room, so the call never fails.
+        // There is room, so the call drops no older report.
         let _ = self.reports.push_back(Report {
             descriptor: named.descriptor,
             wanted: named.reports,
@@ -187,7 +189,7 @@ impl TxEngine {
     }
 }
 
-/// Feeds the addresses and the RS bits of descriptors to a hasher.
+/// Feeds reports to a hasher, in order: for each report, the address of its descriptor and then the RS bit.
 fn feed_reports<H: Hasher>(reports: &[Report], hasher: &mut H)
     ensures { hasher.new ≡ fold H.write hasher.old (flat_map report_writes reports.now) }
 {

@@ -20,21 +20,21 @@ pub struct Named<'a> {
     pub reports: bool,
 }
 
-/// Returns whether a descriptor contains the end of its packet: EOP is set.
+/// Returns whether a descriptor with this command contains the end of its packet: EOP is set.
 fn ends_packet(command: TxCommand) -> bool
     ensures { IsTrue result ↔ HasBit (command_bits command) tx_eop }
 {
     command.contains(TxCommand::EOP)
 }
 
-/// Returns whether a descriptor has one of the extended formats: DEXT is set.
+/// Returns whether a descriptor with this command has one of the extended formats: DEXT is set.
 fn is_extended(command: TxCommand) -> bool
     ensures { IsTrue result ↔ HasBit (command_bits command) tx_dext }
 {
     command.contains(TxCommand::DEXT)
 }
 
-/// Returns whether a descriptor asks for a report: RS is set.
+/// Returns whether a descriptor with this command asks for a report: RS is set.
 fn asks_report(command: TxCommand) -> bool
     ensures { result ≡ is_set (command_bits command) tx_rs }
 {
@@ -45,18 +45,20 @@ fn asks_report(command: TxCommand) -> bool
 fn descriptor_at_head(ring: &Ring, memory: &HostMemory) -> Option<(u64, TxDesc)>
     ensures lies { IsSome result ↔ LiesIn memory.now (address_of ring.now ring.now.head) 16 }
     ensures address { IfSome result (λ found. found.0 ≡ address_of ring.now ring.now.head) }
-    // The descriptor's status is at byte 12.
+    // The status byte, byte 12, is inside memory, so its address fits into 64 bits.
     ensures status_fits { IfSome result (λ found. found.0 + 12 < 2 ^ 64) }
     ensures value { IfSome result
         (λ found. found.1 ≡ transmit_descriptor_at memory.now (address_of ring.now ring.now.head)) }
 {
     let address = ring.descriptor(ring.head, memory.size())?;
     let mut bytes = [0; TX_DESC_BYTES];
+    // The descriptor is inside memory, so the load succeeds.
     memory.load(address, &mut bytes).ok()?;
     Some((address, TxDesc::from_bytes(&bytes)))
 }
 
-/// Returns the bytes that a descriptor points to, or `None` exactly if the descriptor can't be transmitted.
+/// Returns the bytes that a descriptor points to. Returns `None` if and only if the descriptor can't be transmitted:
+/// EOP is clear, DEXT is set, the length is 0 or above 1,518, or the bytes aren't inside memory.
 fn bytes_of<'a>(desc: &TxDesc, memory: &'a HostMemory) -> Option<&'a [u8]>
     ensures transmittable { IsSome result ↔ IsTransmittable memory.now desc.now }
     ensures value { IfSome result (λ bytes. bytes.now ≡ named_by memory.now desc.now) }
@@ -72,13 +74,13 @@ fn bytes_of<'a>(desc: &TxDesc, memory: &'a HostMemory) -> Option<&'a [u8]>
 }
 
 /// Returns the frame that the descriptor at the head points to, with this descriptor's address and RS bit. Returns
-/// `None` if and only if the frame can't be taken: [`take`](crate::take) lists the conditions.
+/// `None` if and only if the frame can't be taken: [`take`](crate::take) lists the conditions of a `Fault`.
 pub fn fetch<'a>(ring: &Ring, memory: &'a HostMemory) -> Option<Named<'a>>
     ensures fetchable { IsSome result ↔ IsFetchable memory.now ring.now }
     ensures bytes { IfSome result (λ named. named.bytes.now
         ≡ named_by memory.now (transmit_descriptor_at memory.now (address_of ring.now ring.now.head))) }
     ensures descriptor { IfSome result (λ named. named.descriptor ≡ address_of ring.now ring.now.head) }
-    // The descriptor's status is at byte 12.
+    // The status byte, byte 12, is inside memory, so its address fits into 64 bits.
     ensures status_fits { IfSome result (λ named. named.descriptor + 12 < 2 ^ 64) }
     ensures length { IfSome result (λ named. length named.bytes.now ≤ 1518) }
     ensures reports { IfSome result (λ named. named.reports

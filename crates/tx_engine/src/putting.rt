@@ -37,8 +37,8 @@ pub fn put(engine: &mut TxEngine, memory: &mut HostMemory, wire_free: bool) -> P
     ensures one_byte { IfFront engine.old.buffer
         (λ queued. DiffersAtMostAt (status_place queued) memory.old memory.new) }
 
-    // If the status byte is apart from each offered descriptor and its frame (`IsAwayFrom`), the first of the frames to
-    // be sent is put on the wire. The other frames to be sent don't change.
+    // For each transmit ring and each `pad`: if the status byte is apart from each offered descriptor and its frame
+    // (`IsAwayFrom`), the first of the frames to be sent is put on the wire. The other frames to be sent don't change.
     ensures to_send { IfPut result (λ _. IfFront engine.old.buffer (λ queued.
         (ring : Ring) (pad : Bool)
         → All (λ slot. IsAwayFrom memory.old (area_at (status_place queued) 1) (address_of ring slot))
@@ -57,7 +57,7 @@ pub fn put(engine: &mut TxEngine, memory: &mut HostMemory, wire_free: bool) -> P
         return Put::Nothing;
     };
     if report.wanted {
-        // If memory ends before the status byte, nothing is written.
+        // The address fits into 64 bits (`Report`). If memory ends before the status byte, nothing is written.
         let _ = memory.store(report.descriptor + STATUS_PLACE, &[TxStatus::DD.bits()]);
     }
     Put::Put {

@@ -12,7 +12,7 @@ use descriptors::{Frame, Ring, SHORTEST_LEGAL, TX_DESC_BYTES, TxDesc};
 use dma_memory::HostMemory;
 
 /// Returns the number of zeros that follow a frame of `length` bytes on the wire. If `pad` is true, zeros pad a frame
-/// of fewer than 60 bytes to 60 bytes.
+/// of fewer than 60 bytes to 60 bytes. If `pad` is false, no zeros follow.
 fn zeros_after(length: usize, pad: bool) -> usize
     ensures zeros { result ≡ (if pad then 60 - length else 0) }
     ensures most { result ≤ 60 }
@@ -24,7 +24,7 @@ fn zeros_after(length: usize, pad: bool) -> usize
     }
 }
 
-/// Appends bytes to a list, which has at most 1,518 bytes afterwards.
+/// Appends bytes to a list. The list must have at most 1,518 bytes afterwards.
 fn extend(whole: &mut ArrayVec<u8, 1518>, bytes: &[u8])
     requires { length whole.old.items + length bytes.now ≤ 1518 }
     ensures { whole.new.items ≡ whole.old.items ++ bytes.now }
@@ -33,8 +33,8 @@ fn extend(whole: &mut ArrayVec<u8, 1518>, bytes: &[u8])
     let _ = whole.try_extend_from_slice(bytes);
 }
 
-/// Returns a frame of at most 1,518 bytes as it is put onto the wire. If the adapter pads, zeros follow the frame up to
-/// 60 bytes.
+/// Returns a frame of at most 1,518 bytes as it is put onto the wire: if `pad` is true, zeros pad a frame of fewer than
+/// 60 bytes to 60 bytes.
 fn frame_as_sent(bytes: &[u8], pad: bool) -> Frame
     requires short { length bytes.now ≤ 1518 }
     ensures { result ≡ as_sent pad bytes.now }
@@ -47,7 +47,8 @@ fn frame_as_sent(bytes: &[u8], pad: bool) -> Frame
     Frame::from_slice(whole.as_slice())
 }
 
-/// Appends a frame of at most 1,518 bytes, as it is put onto the wire, to a list that has room for it.
+/// Appends a frame of at most 1,518 bytes, as it is put onto the wire, padded if `pad` is true. The list must have room
+/// for the frame.
 fn append_padded(bytes: &[u8], pad: bool, frames: &mut Vec<Frame>)
     requires short { length bytes.now ≤ 1518 }
     requires room { length frames.old.items < vec_capacity frames.old }
@@ -58,7 +59,8 @@ fn append_padded(bytes: &[u8], pad: bool, frames: &mut Vec<Frame>)
     let _ = frames.push(frame_as_sent(bytes, pad));
 }
 
-/// Returns the descriptor in a slot of a ring. The ring must be inside memory, so the result is never `None`.
+/// Returns the descriptor in slot `place` of a ring. The ring must be inside memory, and `place` must be the index of a
+/// slot. The result is then never `None`.
 fn descriptor_in(memory: &HostMemory, ring: &Ring, place: u16) -> Option<TxDesc>
     requires ring { LiesIn memory.now ring.now.base (16 * count_of ring.now) }
     requires place { place < count_of ring.now }
@@ -71,8 +73,8 @@ fn descriptor_in(memory: &HostMemory, ring: &Ring, place: u16) -> Option<TxDesc>
     Some(TxDesc::from_bytes(&bytes))
 }
 
-/// Returns the bytes that the descriptor in a slot of a ring points to. The ring and these bytes, at most 1,518, must
-/// be inside memory, so the result is never `None`.
+/// Returns the bytes that the descriptor in slot `place` of a ring points to. The ring and these bytes, at most 1,518,
+/// must be inside memory, and `place` must be the index of a slot. The result is then never `None`.
 fn queued_bytes<'a>(memory: &'a HostMemory, ring: &Ring, place: u16) -> Option<&'a [u8]>
     requires ring { LiesIn memory.now ring.now.base (16 * count_of ring.now) }
     requires place { place < count_of ring.now }
@@ -86,9 +88,9 @@ fn queued_bytes<'a>(memory: &'a HostMemory, ring: &Ring, place: u16) -> Option<&
     memory.view(desc.address, usize::from(desc.length)).ok()
 }
 
-/// Appends the frames of the offered descriptors, as they are put onto the wire. The list must have room for these
-/// frames. The ring and the frames must be inside memory, and no frame may exceed 1,518 bytes. If a descriptor is
-/// offered, head must be the index of a slot.
+/// Appends the frames of the offered descriptors, as they are put onto the wire, padded if `pad` is true. The list must
+/// have room for these frames. The ring and the frames must be inside memory, and no frame may exceed 1,518 bytes. If a
+/// descriptor is offered, head must be the index of a slot.
 pub fn append_queued(memory: &HostMemory, ring: &Ring, pad: bool, frames: &mut Vec<Frame>)
     requires ring { LiesIn memory.now ring.now.base (16 * count_of ring.now) }
     requires slot { (ring.now.head < count_of ring.now) ⊎ (offered_places ring.now ≡ []) }
@@ -98,12 +100,15 @@ pub fn append_queued(memory: &HostMemory, ring: &Ring, pad: bool, frames: &mut V
     ensures room { vec_capacity frames.old ≤ vec_capacity frames.new }
 {
     let count = ring.count();
+    // If head isn't the index of a slot, no descriptor is offered.
     if u32::from(ring.head) >= count {
         return;
     }
     let mut place = ring.head;
+    // The number of offered descriptors that are still to be read.
     let mut left = (u32::from(ring.tail) + count - u32::from(ring.head)) % count;
     while left > 0 {
+        // The result is never `None`.
         let Some(bytes) = queued_bytes(memory, ring, place) else {
             return;
         };

@@ -7,5 +7,6 @@ pub struct Report {
     pub descriptor: u64,
     /// Whether the descriptor asks for a report (RS).
     pub wanted: bool,
+    /// The address of the descriptor's status byte, byte 12, fits into 64 bits.
     pub ghost fits: { descriptor + 12 < 2 ^ 64 },
 }

@@ -22,9 +22,9 @@ pub fn is_idle(engine: &TxEngine, ring: &Ring, control: Tctl) -> bool
 /// packet buffer.
 ///
 /// - `Nothing` exactly if TCTL.EN is 0, the engine is stopped, its buffer contains four frames, or head equals tail.
-/// - Otherwise `Fault` exactly if one of these conditions is true. Head or tail isn't the index of a slot. (A ring
-///   without descriptors has no slots.) The descriptor isn't inside memory, or the bytes that the descriptor points to
-///   aren't inside memory. (Addresses don't wrap.) EOP is clear, DEXT is set, or the length is 0 or above 1,518. Ring
+/// - Otherwise `Fault` exactly if one of these conditions is true. Head or tail isn't the index of a slot (a ring
+///   without descriptors has no slots). The descriptor at the head isn't inside memory, or the bytes that it points to
+///   aren't inside memory (addresses don't wrap). EOP is clear, DEXT is set, or the length is 0 or above 1,518. Ring
 ///   and buffer are then unchanged, and the engine takes no frame until a reset.
 /// - Otherwise `Took`: the frame is in the buffer, and head has advanced by one slot. If TCTL.PSP is set, zeros pad a
 ///   frame of fewer than 60 bytes to 60 bytes.

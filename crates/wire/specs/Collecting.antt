@@ -35,9 +35,11 @@ CollectsReplies old new events replies = old.outcomes.list ≡ [] → AppendsRep
 abbrev pub room_in : Collector → ℕ
 room_in now = room_of now.outcomes
 
+-- The collector is ready for the answer of an event; the event doesn't matter.
 abbrev pub IsReadyToCollect : Collector → Event → Type 0
 IsReadyToCollect now event = HasPlaceForReply now
 
+-- Collecting outcomes obeys the law of an observer (`composes`).
 pub ticks_composes : ComposesTold CollectsTicks
 ticks_composes = record {
   stays = λ a. record { outcomes = collects_none a.outcomes; replies = refl; keeps_room = λ room. room };
@@ -48,6 +50,7 @@ ticks_composes = record {
   };
 }
 
+-- Collecting replies obeys the law of an observer of a run (`composes_runs`).
 pub replies_compose : ComposesRuns CollectsTicks CollectsReplies IsReadyToCollect
 replies_compose = record {
   quiet = λ a b heard empty. record {

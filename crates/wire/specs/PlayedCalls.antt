@@ -35,6 +35,8 @@ part_in (parts.Reset reset) = ByReset reset.host reset.ticks.now
 part_in (parts.Tick tick) = Alone tick
 
 -- The call `call` was made, with the reply `reply`. If its host doesn't exist, only the ticks of the call were played.
+-- The fields are those of `EventRuns`: `go` states the equations, `replied` what the reply states about the steps, and
+-- `answer` the effect of the call if the host exists.
 pub record CallPlayed (call : EventCall) (reply : Reply) (old new : NetworkState) : Type 0 where
   pub steps : List AtomicStep
   pub go : HostsGo call.host (call_happenings call reply) steps old new
@@ -42,7 +44,8 @@ pub record CallPlayed (call : EventCall) (reply : Reply) (old new : NetworkState
   pub answer : (h h' : HostState) → IsHost old call.host h → IsHost new call.host h'
       → AnswersCall call reply.answer steps (connected h old.stations) (connected h' new.stations)
 
--- Host `host` was reset, with the reply `reply`. If the host doesn't exist, only the ticks of the reset were played.
+-- Host `host` was reset, with the reply `reply`. If the host doesn't exist, only the ticks of the reset were played. The
+-- fields are as in `CallPlayed`.
 pub record ResetPlayed (host : ℕ) (ticks : List Tick) (reply : Reply) (old new : NetworkState) : Type 0 where
   pub steps : List AtomicStep
   pub go : HostsGo host (said_in_reset host (reset_answer reply.answer) ticks reply.outcomes.list) steps old new
@@ -54,11 +57,13 @@ pub record ResetPlayed (host : ℕ) (ticks : List Tick) (reply : Reply) (old new
 -- NoHost with 0 accesses.
 pub record AbsentTold {O : Type 0} (observers : OfObserver O) (ran : O → O → List Event → List Reply → Type 0) (event : Event)
     (ticks : List Tick) (old new : Watched O) : Type 0 where
+  -- the observer after the ticks, before the answer
   pub ticked : O
   pub plays : PlaysTicks observers (without_go is_go ticks) 0 old (watched new.stations ticked)
   pub tells : TellsReply ran event (ending 0 NoHost (steps_told 0 plays.steps)) old.observer new.observer
 
--- A tick was played outside a call, with the reply `reply`.
+-- A tick was played outside a call, with the reply `reply`. `steps` is the tick's atomic step; no step if the tick is
+-- Go. `leads` holds for each number `caller`, because no host makes an access.
 pub record TickPlayed (tick : Tick) (reply : Reply) (old new : List StationState) : Type 0 where
   pub steps : List AtomicStep
   pub are : All IsTick steps

@@ -28,6 +28,7 @@ ticks_played (Alone tick) = tick ∷ []
 abbrev pub played_ticks : Event → List Tick
 played_ticks event = ticks_played (in_event event)
 
+-- the tick whose outcome was told
 abbrev pub tick_in : TickTold → Tick
 tick_in told = told.tick
 
@@ -46,6 +47,7 @@ pub record EventEnding : Type 0 where
   pub answer : FrameAnswer
   pub ticks : List TickTold
 
+-- the ending with these accesses, this answer and these ticks
 abbrev pub ending : (accesses : ℕ) → FrameAnswer → List TickTold → EventEnding
 ending accesses answer ticks = record { accesses = accesses; answer = answer; ticks = ticks }
 

@@ -37,7 +37,8 @@ impl Collector {
         }
     }
 
-    /// Makes room for the reply to an event with `ticks` ticks, and for the frame that the reply may contain.
+    /// Makes room for the reply to an event with `ticks` ticks, and for the frame that the reply may contain. The
+    /// collected replies and outcomes don't change, even after an error.
     ///
     /// # Errors
     ///
@@ -87,7 +88,7 @@ impl RunObserver for Collector {
     }
 
     fn answer(&mut self, _event: &Event<'_>, accesses: u64, answer: Answer<()>, frame: &[u8]) {
-        // `reserve` allocated this memory before the event, so there is a frame.
+        // `reserve` allocated this memory before the event, so `self.frame` isn't `None`.
         if let Some(mut given) = self.frame.take() {
             given.fill(frame);
             let outcomes = std::mem::replace(&mut self.outcomes, Outcomes::new(self.alloc));

@@ -30,7 +30,8 @@ impl Lan {
 
     /// Drains a host: passes each frame that the host holds for its sockets to `sink`, with the socket's number, and
     /// returns the number of steps. If there is no such host, nothing changes, and the result is 0. The call allocates
-    /// no memory. `sink` must have room for the number of frames that [`drain_room`](Lan::drain_room) returns.
+    /// no memory. `sink` must have room for the number of frames that [`drain_room`](Lan::drain_room) returns. Each
+    /// frame uses at most one place of this room (`left`).
     ///
     /// Each step is the first of these that applies. If a piece of a frame is in progress, the host's adapter writes
     /// back the descriptor of the piece. If the interrupt line is asserted, the host handles an interrupt. If a frame

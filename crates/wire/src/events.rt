@@ -84,8 +84,11 @@ impl<'a> Part<'a> {
     }
 }
 
-/// Returns the answer of an event, without a frame, by the answer of its call. Also returns the size of the returned
-/// frame in bytes, or 0 if no frame is returned.
+/// Returns the answer of an event, without a frame, from the answer of its call. Also returns the size in bytes of the
+/// frame that a socket returned; 0 if no socket returned a frame. A size in `answer` must be from 60 to 1,518 bytes.
+///
+/// - `ends`: if a socket copied a frame to the front of `bytes`, the returned answer, with this frame, is the event's
+///   answer.
 fn ending_of(answer: HostAnswer<usize>) -> (Answer<()>, usize)
     requires legal { IsLegalAnswer answer }
     ensures short { result.1 ≤ 1518 }
@@ -102,8 +105,9 @@ fn ending_of(answer: HostAnswer<usize>) -> (Answer<()>, usize)
     }
 }
 
-/// Plays the ticks of a call or a reset for a host that doesn't exist, and reports the answer `NoHost` with 0
-/// accesses.
+/// Plays the ticks of a call or a reset, except each `Go`, for a host that doesn't exist. Reports the answer `NoHost`
+/// with 0 accesses and no frame. `ticks` must be the event's ticks. The observer must have room for the answer, and for
+/// the outcome of each tick, including each `Go`.
 #[inline(never)]
 fn no_host<O: RunObserver>(
     network: &mut Network,
@@ -122,9 +126,12 @@ fn no_host<O: RunObserver>(
     observer.answer(event, 0, Answer::NoHost, &[]);
 }
 
-/// Makes the call of an event, while its ticks are played, and reports the answer to the observer. If there is no such
-/// host, only the ticks are played. A frame that a socket returns is copied to the front of `given`, and lent to the
-/// observer.
+/// Makes the call of an event, while the call's ticks are played, and reports the answer to the observer. If there is
+/// no such host, only the ticks are played, and the answer is `NoHost`. A frame that a socket returns is copied to the
+/// front of `given`, and lent to the observer.
+///
+/// `call` must be the call of `event`. The observer must have room for the answer, and for the outcome of each tick,
+/// including each `Go`.
 #[inline(always)]
 pub(crate) fn make_call<O: RunObserver>(
     network: &mut Network,
@@ -149,8 +156,10 @@ pub(crate) fn make_call<O: RunObserver>(
     observer.answer(event, called.accesses, answer, &given[..size]);
 }
 
-/// Resets the adapter of an event's host, while the event's ticks are played. If there is no such host, only the ticks
-/// are played. The observer is told the answer, which contains the frames that the reset dropped.
+/// Resets the adapter of an event's host, while the event's ticks are played. Reports the answer, which contains the
+/// frames that the reset dropped. If there is no such host, only the ticks are played, and the answer is `NoHost`.
+///
+/// `reset` must be the reset of `event`. The observer must have room as for [`make_call`].
 ///
 /// # Errors
 ///
@@ -188,10 +197,9 @@ pub(crate) fn make_reset<O: RunObserver>(
     Ok(())
 }
 
-/// Plays a tick outside a call, and reports the answer `NoCall`. `Go` changes no station, and its outcome is `Nothing`.
-///
-/// `Go` isn't passed to `Network::play`, which plays `Go` as an atomic step. In the steps of an event, `Go` is no
-/// atomic step.
+/// Plays a tick outside a call, and reports the answer `NoCall`, with 0 accesses. `Go` changes no station, and its
+/// outcome is `Nothing`. `tick` must be the tick of `event`. The observer must have room for the outcome and the
+/// answer.
 #[inline(always)]
 pub(crate) fn tick<O: RunObserver>(
     network: &mut Network,
@@ -206,6 +214,8 @@ pub(crate) fn tick<O: RunObserver>(
         (λ reply. TickPlayed tick reply network.old.stations network.new.stations) }
     ensures hosts { network.new.hosts ≡ network.old.hosts }
 {
+    // `Network::play` does the same for `Go`, so the first arm serves only the proof: the contract of `Network::play`
+    // states an atomic step for each tick (`Idles Go`), but `TickPlayed` states no atomic step for `Go`.
     match tick {
         Tick::Go => observer.note(tick, 0, Outcome::Nothing, &[]),
         _ => network.play(tick, 0, observer),

@@ -21,7 +21,7 @@ use std::alloc::Global;
 
 /// Makes a host's adapter, and its memory with the layout's size, and initializes the adapter. Before each access of
 /// the initialization, the EEPROM and the PHY take a step, and no frame arrives. The host isn't connected to a wire
-/// yet.
+/// yet. The plan's configuration must be valid, and its link must need at least one PHY tick (`HasConfig`).
 ///
 /// # Errors
 ///
@@ -41,7 +41,8 @@ pub fn bring_up_host(alloc: Global, plan: &HostPlan) -> Result<(Host, Machine), 
 }
 
 /// Initializes the adapter of a new machine by a plan, and returns the host. Before each access of the initialization,
-/// the EEPROM and the PHY take a step, and no frame arrives. After an error, the machine may be in any state.
+/// the EEPROM and the PHY take a step, and no frame arrives. The machine must be one that [`machine_of`] returned for
+/// this plan. After an error, the machine may be in any state.
 ///
 /// # Errors
 ///
@@ -54,7 +55,7 @@ fn host_over(alloc: Global, plan: &HostPlan, machine: &mut Machine) -> Result<Ho
         → ComesUp plan.now host (record { world = machine.new.world; wire = wire; backlog = [] })) }
     ensures why { IfErr result (IsReason plan.now) }
 {
-    // A law, for the proof of `comes_up`: the address has six bytes.
+    // Only for the proof of `comes_up`: the contract of `address_of` states that the address has six bytes.
     let _address = address_of(&plan.image);
     let table = table_of(plan.sockets.as_slice());
     let mut bus = LivelyBus {
@@ -65,11 +66,12 @@ fn host_over(alloc: Global, plan: &HostPlan, machine: &mut Machine) -> Result<Ho
     Ok(host)
 }
 
-/// Returns a new adapter with the plan's EEPROM and link, and a memory with the size of the plan's layout.
+/// Returns a machine: a new adapter with the plan's EEPROM and link, and a memory with the size of the plan's layout.
+/// `HasConfig` must hold for the plan.
 ///
 /// # Errors
 ///
-/// Only [`Memory`](InitError::Memory): a plan with `HasConfig` has a layout.
+/// Only [`Memory`](InitError::Memory), because a plan with `HasConfig` has a layout.
 fn machine_of(alloc: Global, plan: &HostPlan) -> Result<Machine, InitError>
     requires { HasConfig plan.now }
     ensures adapter { IfOk result (λ machine. machine.world.adapter ≡ new_adapter plan.now.image plan.now.link) }
@@ -77,6 +79,7 @@ fn machine_of(alloc: Global, plan: &HostPlan) -> Result<Machine, InitError>
         (λ machine. length machine.world.memory ≡ size_of (configured_counts plan.now.config)) }
     ensures error { IfErr result (λ error. error ≡ InitError.Memory) }
 {
+    // The memory gets the layout's size, so no smaller memory limits the layout.
     let layout = plan.config.layout(u64::MAX)?;
     let memory = HostMemory::new(alloc, layout.size())?;
     let adapter = Adapter::new(alloc, &plan.image, plan.link)?;
@@ -91,7 +94,7 @@ fn address_of(image: &Image) -> [u8; 6]
     image.address()
 }
 
-/// Returns a copy of these sockets, in the same order.
+/// Returns a copy of these sockets, in the same order. There must be at most [`MOST_SOCKETS`] (8) sockets.
 fn table_of(sockets: &[SocketKind]) -> ArrayVec<SocketKind, MOST_SOCKETS>
     requires { length sockets.now ≤ MOST_SOCKETS }
     ensures { result.items ≡ sockets.now }

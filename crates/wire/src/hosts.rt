@@ -18,7 +18,8 @@ use packet_socket::Host;
 use std::alloc::Global;
 
 /// Initializes all hosts of a plan, in order, each with its own adapter and memory. Hosts whose plans name the same
-/// wire are on the same wire. The number of a wire is the number of the first host whose plan names it.
+/// wire are on the same wire. The number of a wire is the number of the first host whose plan names it. Each plan must
+/// have a valid configuration, and a link that needs at least one PHY tick (`HasConfigs`).
 ///
 /// # Errors
 ///
@@ -44,8 +45,9 @@ pub fn bring_up(alloc: Global, plan: &Plan) -> Result<Network, PlanError>
     Ok(network)
 }
 
-/// Initializes host `number` of a plan, and returns the host with its machine. The host isn't connected to a wire yet.
-/// An error other than [`Memory`](PlanError::Memory) contains the host's number.
+/// Initializes host `number`, and returns the host with its machine. The host isn't connected to a wire yet.
+/// `HasConfig` must hold for each plan. Each earlier host must have a right EEPROM checksum, and a link that can be up
+/// (`CanComeUp`). An error other than [`Memory`](PlanError::Memory) contains the host's number.
 fn bring_up_one(
     alloc: Global,
     plans: &[HostPlan],

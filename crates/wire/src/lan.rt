@@ -8,7 +8,7 @@ use network_plan::{Event, Reply, Stopped};
 use std::alloc::{AllocError, Global};
 use std::marker::Model;
 
-/// A network of hosts on wires, in which `HostStands` holds for each host.
+/// A network of hosts on wires, in which `HostStands` (`specs/Equations.antt`) holds for each host.
 ///
 /// In contracts, the value is a `NetworkState` (`specs/Networks.antt` of `host_calls`).
 #[derive(Drop)]
@@ -38,7 +38,8 @@ impl Lan {
     ghost use Rattle.network_plan.specs.EventCalls.{in_event};
     ghost use Rattle.wire.specs.Runs.{EventRuns, IsResetOf, RunTold, RunsTo, StopsAt};
 
-    /// Runs one event. The observer must have room for the outcomes of the event's ticks, and for its answer.
+    /// Runs one event, and reports its outcomes and its answer to the observer. The observer must have room for the
+    /// outcomes of the event's ticks, and for the event's answer.
     ///
     /// # Errors
     ///
@@ -78,8 +79,8 @@ impl Lan {
     /// # Errors
     ///
     /// Returns an error only if the observer refuses to make room for an event, or if memory for the frames that a
-    /// reset drops can't be allocated. The events before this event were run and told, and this event changed nothing
-    /// in the network.
+    /// reset drops can't be allocated. The first `done` events were run and told, and the next event changed nothing in
+    /// the network.
     #[inline(always)]
     pub fn play<O: RunObserver>(
         &mut self,

@@ -7,7 +7,7 @@ pub fn runs_join()
     ensures { RunsJoin }
 {}
 
-/// In runs that follow each other, the first from a network that [`new`](crate::Lan::new) made, no frame is illegal. A
+/// No frame has the fate Illegal in consecutive runs that begin with a network that [`new`](crate::Lan::new) made. A
 /// frame is legal if it has 60 to 1,518 bytes.
 /// - `made`: a network that [`new`](crate::Lan::new) made has only legal frames, because it has no frames.
 /// - `stays`: if a network has only legal frames before a run, no frame has the fate Illegal in the run. The network

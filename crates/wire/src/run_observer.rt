@@ -31,7 +31,7 @@ pub trait RunObserver: Observer {
 
     /// Makes room for the answer of an event, and for the outcomes of its `ticks` ticks, before the first tick.
     /// Returns `true` only if there is room, and `false` only if the observer may refuse (`refuses`). The number
-    /// `ticks` includes each `Go`.
+    /// `ticks` includes each `Go`. By this call, the observer is told nothing.
     fn make_room(&mut self, event: &Event<'_>, ticks: usize) -> bool
         requires count { ticks ≡ length (ticks_of event.now) }
         ensures nothing { Self.heard self.old self.new [] }
@@ -40,7 +40,10 @@ pub trait RunObserver: Observer {
 
     /// Reports to the observer the answer of an event, and the number of accesses of the event's call or reset. A tick
     /// outside a call has 0 accesses. `frame` is the frame that a socket returned, of at most 1,518 bytes. For other
-    /// answers, `frame` has no meaning.
+    /// answers, `frame` has no meaning. The observer must have room for the answer (`ready`).
+    ///
+    /// The clause without a name: if the observer was told exactly the outcomes of the event's ticks since a state
+    /// `begin`, then after this call it was told a complete reply since `begin`.
     fn answer(&mut self, event: &Event<'_>, accesses: u64, answer: Answer<()>, frame: &[u8])
         requires room { ready self.old event.now }
         requires fits { length frame.now ≤ longest_frame }
