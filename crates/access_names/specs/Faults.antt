@@ -59,7 +59,7 @@ fault_of_data world = record {
   reason = reason_of_data world.adapter.filter.rctl world.memory (receive_ring world);
 }
 
--- why a step of this kind is a fault, if its outcome is a fault; steps of other kinds than TxTake and RxData are never faults
+-- The result of `fault_of`: why a step of this kind is a fault, if its outcome is a fault. Only a TxTake or an RxData can be a fault.
 abbrev pub fault_if_any : StepKind → World → Option EngineFault
 fault_if_any TxTake world = Some (fault_of_take world)
 fault_if_any RxData world = Some (fault_of_data world)

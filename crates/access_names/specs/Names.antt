@@ -70,8 +70,8 @@ abbrev pub index_text : Option ℕ → Text
 index_text (Some index) = bracketed (decimal index)
 index_text None = []
 
--- the name of this register, with its index if it is in an array; or, if there is no register, `register` and the hexadecimal offset in
--- brackets
+-- The name of this register, with its index if it is in an array. If there is no register, the name is `register` and the hexadecimal
+-- offset in brackets.
 abbrev pub register_text : Option AdapterRegister → ℕ → Text
 register_text (Some register) offset = manual_name register ++ index_text (array_index register)
 register_text None offset = codes "register" ++ bracketed (hexadecimal offset)

@@ -19,7 +19,8 @@ use bus::Machine;
 use descriptors::{LONGEST_SENDABLE, Ring, TX_DESC_BYTES, TxCommand, TxDesc};
 use registers::Rctl;
 
-/// Returns why a step is a fault, if its outcome is a fault. Call this function before the step or right after it.
+/// Returns why a step is a fault, if its outcome is a fault. Call this function before the step or right after it. A
+/// fault doesn't change the result (`stays` in [`reasons_of_faults_hold`](crate::reasons_of_faults_hold)).
 ///
 /// If the outcome of a [`TxTake`](StepKind::TxTake) or an [`RxData`](StepKind::RxData) isn't a fault, the result has no
 /// meaning. Steps of other kinds are never faults: for them, returns `None`.
@@ -33,7 +34,7 @@ pub fn fault_of(machine: &Machine, kind: StepKind) -> Option<EngineFault>
     }
 }
 
-/// Returns why a step that takes a frame from the transmit ring is a fault, if the step is a fault.
+/// Returns the fault of a [`TxTake`](StepKind::TxTake). If the outcome isn't a fault, the result has no meaning.
 fn fault_of_take(machine: &Machine) -> EngineFault
     ensures fault { result ≡ fault_of_take machine.now.world }
 {
@@ -45,7 +46,7 @@ fn fault_of_take(machine: &Machine) -> EngineFault
     }
 }
 
-/// Returns why a step that moves a piece of a received frame to memory is a fault, if the step is a fault.
+/// Returns the fault of an [`RxData`](StepKind::RxData). If the outcome isn't a fault, the result has no meaning.
 fn fault_of_data(machine: &Machine) -> EngineFault
     ensures fault { result ≡ fault_of_data machine.now.world }
 {
@@ -65,8 +66,9 @@ fn receive_control(machine: &Machine) -> Rctl
     Rctl(machine.value(RCTL))
 }
 
-/// Returns the first reason why the descriptor at the head of the transmit ring can't be taken, or `Buffer` if no other
-/// reason applies. `words` are the values of the ring's registers.
+/// Returns the first reason why the descriptor at the head of the transmit ring can't be taken. `words` are the values
+/// of the ring's registers. `Buffer` is the last reason, and isn't tested: a fault without another reason has this
+/// reason.
 fn reason_of_take(machine: &Machine, words: RingWords) -> Reason
     ensures { result ≡ reason_of_take machine.now.world.memory (ring_from words) }
 {
@@ -79,7 +81,8 @@ fn reason_of_take(machine: &Machine, words: RingWords) -> Reason
     }
 }
 
-/// Returns the first reason why a transmit descriptor can't be taken, or `Buffer` if no other reason applies.
+/// Returns the first reason why a transmit descriptor can't be taken, or `Buffer`, which isn't tested, if no other
+/// reason applies.
 fn reason_of_descriptor(desc: &TxDesc) -> Reason
     ensures { result ≡ reason_of_descriptor desc.now }
 {
@@ -94,9 +97,9 @@ fn reason_of_descriptor(desc: &TxDesc) -> Reason
     }
 }
 
-/// Returns the first reason why no piece can be moved to the buffer of the descriptor at the head of the receive ring,
-/// or `Buffer` if no other reason applies. `words` are the values of the ring's registers, and `control` is that of
-/// RCTL.
+/// Returns the first reason why no piece can be moved to the buffer of the descriptor at the head of the receive ring.
+/// `words` are the values of the ring's registers, and `control` is the value of RCTL. `Buffer` is the last reason, and
+/// isn't tested: a fault without another reason has this reason.
 fn reason_of_data(machine: &Machine, words: RingWords, control: Rctl) -> Reason
     ensures { result ≡ reason_of_data control.0 machine.now.world.memory (ring_from words) }
 {
@@ -112,12 +115,13 @@ fn reason_of_data(machine: &Machine, words: RingWords, control: Rctl) -> Reason
     }
 }
 
-/// Returns the 16 bytes of the descriptor at the head of a receive or transmit ring, or `None` if and only if some of
-/// them are outside memory.
+/// Returns the bytes of the descriptor at the head of a ring, or `None` if and only if some of these bytes are outside
+/// memory. Descriptors of both rings have 16 bytes.
 fn descriptor_at_head(machine: &Machine, ring: Ring) -> Option<[u8; TX_DESC_BYTES]>
     ensures { result ≡ (if is_inside machine.now.world.memory (address_of ring ring.head) 16
         then Some (bytes_at machine.now.world.memory (address_of ring ring.head) 16) else None) }
 {
+    // The address, if all bytes of the descriptor are inside memory.
     let address = ring.descriptor(ring.head, machine.size())?;
     let mut bytes = [0; TX_DESC_BYTES];
     machine.load(address, &mut bytes);

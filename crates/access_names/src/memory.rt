@@ -29,7 +29,7 @@ pub fn memory_target(machine: &Machine, address: u64) -> Target
     Target::Memory(address)
 }
 
-/// Returns the byte of an engine's ring at this address, or `None` if the address isn't in the ring.
+/// Returns the byte of a descriptor at this address in an engine's ring, or `None` if the address isn't in the ring.
 fn target_in_ring(machine: &Machine, engine: Engine, address: u64) -> Option<Target>
     ensures target { result ≡ target_in_ring engine (ring_of_engine engine machine.now.world) address }
 {

@@ -13,20 +13,23 @@ use crate::target::Target;
 use adapter::Register;
 use itoa::write_digits;
 
-/// The size of the buffer for a name, in bytes.
+/// The size of the buffer for a name, in bytes. It exceeds the longest name, and the room that the functions below
+/// require.
 const ROOM: usize = 128;
 
-/// The bound of the loop over digits, as in the definition of `digits`. A `u64` has at most 16 hexadecimal digits.
+/// The maximum number of digits in the definition of `digits`. A `u64` has at most 16 hexadecimal digits.
 const MOST_DIGITS: u8 = 64;
 
 const HEXADECIMAL: u64 = 16;
 
-/// The name of a target. The name contains its bytes, so no memory is allocated.
+/// The name of a target. The name contains its bytes, so no memory is allocated. Text is only added in front of a name,
+/// so a name is written from its end to its beginning.
 #[derive(Clone, Copy)]
 pub struct TargetName {
     /// The buffer of the name.
     bytes: [u8; ROOM],
-    /// The index of the name's first byte. The name ends at the end of `bytes`.
+    /// The index of the name's first byte, at most 128. So it is also the number of free bytes in front of the name.
+    /// The name ends at the end of `bytes`.
     start: usize,
 }
 
@@ -44,7 +47,7 @@ fn digit_of(value: u64) -> u8
 }
 
 impl TargetName {
-    /// Returns an empty name.
+    /// Returns an empty name. All 128 bytes of its buffer are free.
     fn new() -> TargetName
         ensures text { name_bytes result ≡ [] }
         ensures room { result.start ≡ 128 }
@@ -78,37 +81,41 @@ impl TargetName {
     }
 
     /// Adds a number in front of the name, in decimal digits. The buffer must have room for 20 digits, the maximum of a
-    /// `u64`.
+    /// `u64`. `room`: at most 20 bytes are used.
     fn prepend_decimal(&mut self, number: u64)
         requires { (20 ≤ self.old.start) × (self.old.start ≤ 128) }
         ensures text { name_bytes self.new ≡ decimal number ++ name_bytes self.old }
         ensures room { (self.old.start ≤ self.new.start + 20) × (self.new.start ≤ self.old.start) }
     {
+        // Writes the digits right before `start`, and returns the index of the first digit.
         self.start = write_digits(number, &mut self.bytes, self.start);
     }
 
-    /// Adds a number in front of the name, in lower-case hexadecimal digits. The buffer must have room for
-    /// [`MOST_DIGITS`] digits.
+    /// Adds a number in front of the name, in lower-case hexadecimal digits. The buffer must have room for 64 digits,
+    /// the maximum in the definition of `digits`. A `u64` uses at most 16 of them.
     fn prepend_hexadecimal(&mut self, number: u64)
         requires { (64 ≤ self.old.start) × (self.old.start ≤ 128) }
         ensures text { name_bytes self.new ≡ digits 16 false number ++ name_bytes self.old }
         ensures room { (self.old.start ≤ self.new.start + 64) × (self.new.start ≤ self.old.start) }
     {
-        let mut digits = MOST_DIGITS;
+        // `turns` only bounds the loop, as in the definition of `digits`. For a `u64`, `left` is below 16 after at most
+        // 15 turns, so `turns` never ends the loop.
+        let mut turns = MOST_DIGITS;
         let mut at = self.start;
         let mut left = number;
-        while digits > 1 && left >= HEXADECIMAL {
+        while turns > 1 && left >= HEXADECIMAL {
             at -= 1;
             self.bytes[at] = digit_of(left % HEXADECIMAL);
             left /= HEXADECIMAL;
-            digits -= 1;
+            turns -= 1;
         }
+        // The first digit.
         self.bytes[at - 1] = digit_of(left % HEXADECIMAL);
         self.start = at - 1;
     }
 
     /// Adds a number in front of the name, in decimal digits and in brackets. The buffer must have room for 20 digits
-    /// and the brackets.
+    /// and the brackets. `room`: at most 22 bytes are used.
     fn prepend_index(&mut self, index: u64)
         requires { (22 ≤ self.old.start) × (self.old.start ≤ 128) }
         ensures text { name_bytes self.new ≡ bracketed (decimal index) ++ name_bytes self.old }
@@ -120,7 +127,7 @@ impl TargetName {
     }
 }
 
-/// Returns the name of an address in memory.
+/// Returns the name of an address in memory, such as `0x10000`.
 fn memory_name(address: u64) -> TargetName
     ensures { name_bytes result ≡ hexadecimal address }
 {
@@ -130,7 +137,8 @@ fn memory_name(address: u64) -> TargetName
     name
 }
 
-/// Returns the name of a byte of a descriptor.
+/// Returns the name of a byte of a descriptor, such as `rx[1]+8`. Byte 0 has the name of the descriptor, such as
+/// `rx[1]`.
 fn descriptor_name(ring: Engine, index: u64, byte: u64) -> TargetName
     ensures { name_bytes result ≡ ring_text ring ++ bracketed (decimal index) ++ byte_text byte }
 {
@@ -155,7 +163,8 @@ fn offset_name(offset: u32) -> TargetName
     name
 }
 
-/// Returns the name of the register at this offset, or the name of the offset if no register has this offset.
+/// Returns the name of the register at this offset, with its index if it is in an array, such as `MTA[3]`. If no
+/// register has this offset, returns the name of the offset.
 fn register_name(offset: u32) -> TargetName
     ensures { name_bytes result ≡ register_text (register_at offset) offset }
 {

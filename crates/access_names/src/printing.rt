@@ -45,7 +45,7 @@ fn write_register<W: fmt::Write>(offset: u32, f: &mut fmt::Formatter<W>) -> fmt:
     }
 }
 
-/// Returns the word for the ring of an engine.
+/// Returns the word for the ring of an engine: `rx` or `tx`.
 pub(crate) fn ring_word(engine: Engine) -> &'static str
     ensures { result.now ≡ ring_text engine }
 {

@@ -26,7 +26,7 @@ pub struct RingWords {
 }
 
 impl RingWords {
-    /// Returns the values of the registers of an engine's ring.
+    /// Returns the values of the registers of an engine's ring, without an access.
     pub fn of(machine: &Machine, engine: Engine) -> RingWords
         ensures ring { ring_from result ≡ ring_of_engine engine machine.now.world }
     {
@@ -44,7 +44,7 @@ impl RingWords {
     }
 
     /// Returns the ring, or `None` if and only if head or tail isn't the index of a descriptor in the ring. A ring has
-    /// at most 65,536 descriptors, so every index is a `u16`.
+    /// at most 65,536 descriptors, so a value that isn't a `u16` isn't such an index.
     pub(crate) fn ring(self) -> Option<Ring>
         ensures { result ≡ (if has_valid_indices (ring_from self) then Some (ring_from self) else None) }
     {
@@ -68,7 +68,7 @@ impl RingWords {
     }
 }
 
-/// Returns the value of a register of an engine's ring.
+/// Returns the value that a read of a register of an engine's ring would return.
 fn value_of(machine: &Machine, engine: Engine, register: RingRegister) -> u32
     ensures { result ≡ ring_answer register (registers_of_ring engine machine.now.world) }
 {

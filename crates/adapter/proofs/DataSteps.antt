@@ -8,7 +8,7 @@ use Rattle.rx_engine.specs.Moving.{IfMoved, IsMoved, IsPartMoved, engine_after_d
 use Rattle.rx_engine.specs.Receiver.{Receiver}
 use Rattle.rx_engine.specs.declared.data.Data.{Data}
 use Rattle.rx_engine.specs.declared.data.Data.TheVariants.{Nothing, Part, Moved, Fault}
-use Rattle.adapter.specs.DataOutcomes.{causes_of_answer, outcome_of}
+use Rattle.adapter.specs.DataOutcomes.{causes_of_data, outcome_of_data}
 use Rattle.adapter.specs.Outcomes.{framed}
 use Rattle.adapter.specs.Receiving.{CanMovePiece, DataAnswers, HasFrameAndDescriptor, after_data, is_last_piece, memory_after_data_step}
 use Rattle.adapter.specs.Rings.{ring_of}
@@ -39,7 +39,7 @@ abbrev pub left_by : Data → AdapterState → AdapterState
 left_by answer state = record state {
   receiver = engine_after_data answer state.filter.rctl (ring_of state.receive_ring) state.receiver;
   receive_ring = record state.receive_ring { head = (ring_after_data answer (ring_of state.receive_ring)).head };
-  causes = record state.causes { recorded = union state.causes.recorded (causes_of (causes_of_answer answer)) };
+  causes = record state.causes { recorded = union state.causes.recorded (causes_of (causes_of_data answer)) };
 }
 
 left_by-piece : (low : Bool) (receiver : Receiver) (state : AdapterState) → low ≡ is_half_offered (ring_of (moved_on state.receive_ring))
@@ -50,7 +50,7 @@ left_by-piece low receiver state half =
 
 pub left_by-state : (F : Type 0) (answer : Data) (state : AdapterState)
     → IfMoved answer (λ low. low ≡ is_half_offered (ring_after_data answer (ring_of state.receive_ring)))
-    → left_by answer state ≡ after_data (framed {F = F} (outcome_of {F = F} answer) state) state
+    → left_by answer state ≡ after_data (framed {F = F} (outcome_of_data {F = F} answer) state) state
 left_by-state F Nothing state half = none_recorded state
 left_by-state F (Part low) state half =
     left_by-piece low (engine_after_data (Part low) state.filter.rctl (ring_of state.receive_ring) state.receiver) state half
@@ -64,7 +64,7 @@ pub answered-data : (F : Type 0) (answer : Data) (memory : List ℕ) (state : Ad
     → (answer ≡ Fault) ↔ (HasFrameAndDescriptor state × (¬ (CanMovePiece memory state)))
     → IsPartMoved answer ↔ (HasFrameAndDescriptor state × CanMovePiece memory state × (is_last_piece state ≡ false))
     → IsMoved answer ↔ (HasFrameAndDescriptor state × CanMovePiece memory state × (is_last_piece state ≡ true))
-    → DataAnswers memory state (framed {F = F} (outcome_of {F = F} answer) state)
+    → DataAnswers memory state (framed {F = F} (outcome_of_data {F = F} answer) state)
 answered-data F Nothing memory state nothing fault part moved = nothing.0 refl
 answered-data F (Part low) memory state nothing fault part moved = part.0 tt
 answered-data F (Moved low) memory state nothing fault part moved = moved.0 tt
@@ -72,7 +72,7 @@ answered-data F Fault memory state nothing fault part moved = fault.0 refl
 
 pub memory_by-data : (F : Type 0) (answer : Data) (memory : List ℕ) (state : AdapterState)
     → memory_after_data answer state.filter.rctl (ring_of state.receive_ring) state.receiver memory
-    ≡ memory_after_data_step (framed {F = F} (outcome_of {F = F} answer) state) memory state
+    ≡ memory_after_data_step (framed {F = F} (outcome_of_data {F = F} answer) state) memory state
 memory_by-data F Nothing memory state = refl
 memory_by-data F (Part low) memory state = refl
 memory_by-data F (Moved low) memory state = refl

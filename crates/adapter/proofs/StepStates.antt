@@ -293,7 +293,7 @@ put-answers (puts.Put reported) wire_free state nothing full =
     is_oldest [] some = absurd (some refl)
     is_oldest (queued ∷ later) some = refl
 
-putting-causes : (reported : Bool) (buffer : List Queued) → buffer ≢ [] → IfFront buffer (λ queued. reported ≡ queued.report)
+putting-causes : (reported : Bool) (buffer : List Queued) → buffer ≢ [] → IfFront buffer (λ queued. reported ≡ queued.rs)
     → (if reported then alone txdw else 0) ≡ causes_of_putting buffer
 putting-causes reported [] some is = absurd (some refl)
 putting-causes reported (queued ∷ later) some is = ap (λ (b : Bool). if b then alone txdw else 0) is
@@ -304,7 +304,7 @@ pub put-state : (answer : Put) (state : AdapterState) (file : RegisterFile) (eng
     → (answer ≡ puts.Nothing → (engine ≡ state.transmitter) × (memory' ≡ memory))
     → (answer ≡ puts.WireFull → (engine ≡ state.transmitter) × (memory' ≡ memory))
     → IfPut answer (λ _. engine ≡ record state.transmitter { buffer = drop 1 state.transmitter.buffer })
-    → IfPut answer (λ reported. IfFront state.transmitter.buffer (λ queued. reported ≡ queued.report))
+    → IfPut answer (λ reported. IfFront state.transmitter.buffer (λ queued. reported ≡ queued.rs))
     → record (with_file file state) { transmitter = engine } ≡ after_put (framed (outcome_of_put answer) state) state
 put-state puts.Nothing state file engine memory memory' file_is nothing untouched waits gone reports =
     ap (λ (f : RegisterFile). record (with_file f state) { transmitter = engine }) file_is

@@ -195,7 +195,7 @@ HasRegisters-took _ memory state adapter = adapter
 
 putting-alone : (buffer : List Queued) → IsSubset (causes_of_putting buffer) all_causes
 putting-alone [] = refl
-putting-alone (queued ∷ later) = cause-alone queued.report 0x1 refl
+putting-alone (queued ∷ later) = cause-alone queued.rs 0x1 refl
 
 HasRegisters-put : (answer : FrameOutcome) (state : AdapterState) → HasRegisters state → HasRegisters (after_put answer state)
 HasRegisters-put (Put frame) state adapter =

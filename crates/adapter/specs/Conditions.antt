@@ -16,7 +16,7 @@ use Rattle.adapter.specs.World.{World, receive_ring, transmit_ring}
 
 -- The descriptor of a frame asks for a report: RS is set.
 abbrev pub Reports : Queued → Type 0
-Reports queued = queued.report ≡ true
+Reports queued = queued.rs ≡ true
 
 -- The conditions on a world whose driver's oldest slots in the receive and in the transmit ring have these indices.
 pub record Sound (oldest_receive oldest_transmit : ℕ) (world : World) : Type 0 where

@@ -19,19 +19,19 @@ use Rattle.adapter.specs.declared.outcome.Outcome.TheVariants.{Done as DidFinish
 use Rattle.adapter.specs.declared.register_file.RegisterFile.{RegisterFile}
 
 -- The outcome of a data step with this answer.
-abbrev pub outcome_of : {F : Type 0} → Data → Outcome F
-outcome_of answers.Nothing = Nothing
-outcome_of (answers.Part half) = Part
-outcome_of (answers.Moved half) = Moved
-outcome_of answers.Fault = Fault
+abbrev pub outcome_of_data : {F : Type 0} → Data → Outcome F
+outcome_of_data answers.Nothing = Nothing
+outcome_of_data (answers.Part half) = Part
+outcome_of_data (answers.Moved half) = Moved
+outcome_of_data answers.Fault = Fault
 
 -- The causes that a data step with this answer records: RXDMT0, bit 4, if a piece was moved, and exactly half of the ring's descriptors are
 -- now offered.
-abbrev pub causes_of_answer : Data → ℕ
-causes_of_answer answers.Nothing = 0
-causes_of_answer (answers.Part half) = if half then alone rxdmt0 else 0
-causes_of_answer (answers.Moved half) = if half then alone rxdmt0 else 0
-causes_of_answer answers.Fault = 0
+abbrev pub causes_of_data : Data → ℕ
+causes_of_data answers.Nothing = 0
+causes_of_data (answers.Part half) = if half then alone rxdmt0 else 0
+causes_of_data (answers.Moved half) = if half then alone rxdmt0 else 0
+causes_of_data answers.Fault = 0
 
 -- The outcome of a done step with this answer.
 abbrev pub outcome_of_done : {F : Type 0} → Done → Outcome F

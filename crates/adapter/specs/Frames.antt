@@ -24,14 +24,14 @@ use Rattle.adapter.specs.Transmitting.{PutAnswers, TakeAnswers, after_put, after
 
 -- The frames still to be sent: first those in the transmit packet buffer, then those of the offered transmit descriptors. If TCTL.PSP is
 -- set, the frames of descriptors are padded.
-abbrev pub frames_to_send : List ℕ → AdapterState → List (List ℕ)
-frames_to_send memory state = to_send memory (ring_of state.transmit_ring) (pads state.transmit_control) state.transmitter.buffer
+abbrev pub frames_to_transmit : List ℕ → AdapterState → List (List ℕ)
+frames_to_transmit memory state = to_send memory (ring_of state.transmit_ring) (pads state.transmit_control) state.transmitter.buffer
 
 -- A take step doesn't change the frames to be sent, whatever its outcome.
 abbrev pub TakingLeavesFrames : Type 0
 TakingLeavesFrames =
     (memory : List ℕ) (state : AdapterState) (answer : FrameOutcome) → TakeAnswers memory state answer
-    → frames_to_send memory (after_take answer memory state) ≡ frames_to_send memory state
+    → frames_to_transmit memory (after_take answer memory state) ≡ frames_to_transmit memory state
 
 -- Byte 12 of the descriptor of the transmit packet buffer's oldest frame, if any, is apart from each offered descriptor's first ten bytes
 -- and data.
@@ -46,7 +46,7 @@ abbrev pub PuttingTakesFirst : Type 0
 PuttingTakesFirst =
     (wire_free : Bool) (memory : List ℕ) (state : AdapterState) (frame : List ℕ) → PutAnswers wire_free state (Put frame)
     → ReportStandsApart memory state
-    → frames_to_send memory state ≡ frame ∷ frames_to_send (memory_after_put (Put frame) memory state) (after_put (Put frame) state)
+    → frames_to_transmit memory state ≡ frame ∷ frames_to_transmit (memory_after_put (Put frame) memory state) (after_put (Put frame) state)
 
 -- The bytes to which the next piece is written are apart from the descriptor at RDH, which contains their address.
 abbrev pub PlaceStandsApart : List ℕ → AdapterState → Type 0

@@ -66,7 +66,7 @@ PutAnswers wire_free state _ = ⊥
 -- frame is on the wire is our choice).
 abbrev pub causes_of_putting : List Queued → ℕ
 causes_of_putting [] = 0
-causes_of_putting (queued ∷ later) = if queued.report then alone txdw else 0
+causes_of_putting (queued ∷ later) = if queued.rs then alone txdw else 0
 
 -- The adapter after its oldest frame is removed from the packet buffer: GPTC counts the frame, and the causes of `causes_of_putting` are
 -- recorded.

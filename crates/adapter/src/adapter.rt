@@ -27,7 +27,7 @@ use tx_engine::TxEngine;
 /// In contracts, the value is an `AdapterState`, plain data that `specs/State.antt` defines. The table of
 /// [`offsets`](crate::offsets) states the effect of each register access. The adapter does all other work in steps and
 /// arrivals. One call of [`step`](Adapter::step) is one step, and one call of [`arrive`](Adapter::arrive) is the
-/// arrival of one frame.
+/// arrival of one frame. The clauses `adapter` of calls state the invariant of the value, for the proofs of callers.
 #[derive(Drop)]
 pub struct Adapter {
     image: Image,
@@ -69,7 +69,6 @@ impl Clone for Adapter {
     }
 }
 
-// The clauses `adapter` state the invariant of an adapter's value, for the proofs of callers.
 impl Adapter {
     ghost use Rattle.adapter.specs.Hashed.{adapter_writes};
     ghost use Rattle.adapter.specs.Outcomes.{framed};
@@ -109,6 +108,7 @@ impl Adapter {
         ensures state { self.new ≡ after_read offset self.old }
         ensures adapter { IsAdapter self.new }
     {
+        // The register file contains neither STATUS nor PBA.
         if offset == STATUS {
             self.status().bits()
         } else if offset == PBA {
@@ -124,6 +124,7 @@ impl Adapter {
         ensures answer { result ≡ answer_at offset self.now }
         ensures adapter { IsAdapter self.now }
     {
+        // The register file contains neither STATUS nor PBA.
         if offset == STATUS {
             self.status().bits()
         } else if offset == PBA {
@@ -140,6 +141,7 @@ impl Adapter {
         ensures state { self.new ≡ after_write offset value self.old }
         ensures adapter { IsAdapter self.new }
     {
+        // The register file doesn't contain PBA, and its write of CTRL ignores RST.
         if offset == CTRL && asks_for_reset(value) {
             self.reset();
         } else if offset == PBA {
@@ -172,8 +174,8 @@ impl Adapter {
         self.file.mdic.has_work(&self.phy)
     }
 
-    /// Feeds the whole state of the adapter to a hasher, except for the image of the EEPROM, which never changes. Equal
-    /// adapters feed the same bytes.
+    /// Feeds the whole state of the adapter to a hasher, for a digest, except for the image of the EEPROM, which never
+    /// changes. Equal adapters feed the same bytes.
     pub fn feed<H: Hasher>(&self, hasher: &mut H)
         ensures { hasher.new ≡ fold H.write hasher.old (adapter_writes self.now) }
     {
@@ -185,7 +187,8 @@ impl Adapter {
     }
 
     /// Performs one step of the adapter on its host's memory. `wire_free` is whether the wire has room for a frame. If
-    /// the outcome is `Nothing`, the adapter and the memory are unchanged.
+    /// the outcome is `Nothing`, the adapter and the memory are unchanged. In the clauses, `framed` adds the frame that
+    /// the step puts to the outcome.
     ///
     /// Only `TxTake` and `RxData` can return `Fault`. A fault changes neither memory nor a register of a ring (our
     /// choice). After a fault, steps of the same kind return `Nothing` until a write of CTRL with RST, as the contract
@@ -276,9 +279,9 @@ impl Adapter {
         ensures nothing { result ≡ outcome.Nothing → self.new ≡ self.old }
         ensures adapter { IsAdapter self.new }
     {
-        let told = self.file.mdic.tick(&mut self.phy);
-        self.file.causes.raise(causes_of_tick(told));
-        outcome_of_tick(told)
+        let ticked = self.file.mdic.tick(&mut self.phy);
+        self.file.causes.raise(causes_of_tick(ticked));
+        outcome_of_tick(ticked)
     }
 }
 
@@ -289,11 +292,11 @@ fn asks_for_reset(value: u32) -> bool
     Ctrl::written(value).resets()
 }
 
-/// Returns the outcome of a tick of the PHY with this result: `Nothing` for `None`, else `Ticked`.
-fn outcome_of_tick(told: Option<Ticked>) -> Outcome<()>
-    ensures { result ≡ outcome_of_tick told }
+/// Returns the outcome of a tick of the PHY with this result: `Outcome::Nothing` for `None`, else `Outcome::Ticked`.
+fn outcome_of_tick(ticked: Option<Ticked>) -> Outcome<()>
+    ensures { result ≡ outcome_of_tick ticked }
 {
-    match told {
+    match ticked {
         Some(_) => Outcome::Ticked,
         None => Outcome::Nothing,
     }
@@ -301,11 +304,11 @@ fn outcome_of_tick(told: Option<Ticked>) -> Outcome<()>
 
 /// Returns the causes that a tick of the PHY with this result records: LSC if the link changed to up, and MDAC if a
 /// command with bit I set has ended. For `None`, returns no cause.
-fn causes_of_tick(told: Option<Ticked>) -> Cause
-    ensures { result.0 ≡ causes_of_tick told }
+fn causes_of_tick(ticked: Option<Ticked>) -> Cause
+    ensures { result.0 ≡ causes_of_tick ticked }
 {
     let mut causes = Cause::empty();
-    let Some(ticked) = told else {
+    let Some(ticked) = ticked else {
         return causes;
     };
     if ticked.link_changed {

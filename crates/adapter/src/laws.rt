@@ -8,21 +8,25 @@ ghost use Rattle.adapter.specs.Frames.{TakingLeavesFrames};
 ghost use Rattle.adapter.specs.History.{PlainByHistory};
 ghost use Rattle.adapter.specs.Parts.{PartsHaveTheirLaws};
 
-/// Laws of the registers' offsets, by the table. Each register has one offset, and no two registers have the same
-/// offset. All offsets are multiples of 4 below 0x5800. An access at an offset is an access of the register at this
-/// offset. If no register is at an offset, a read returns 0, and neither a read nor a write changes anything.
+/// Laws of the registers' offsets, by the table of [`offsets`](crate::offsets).
+/// - `offsets`: each register has one offset, and no two registers have the same offset. All offsets are multiples of 4
+///   below 0x5800.
+/// - `register`: an access at an offset is an access of the register at this offset.
+/// - `outside`: if no register is at an offset, a read returns 0, and neither a read nor a write changes anything.
 pub fn offsets_by_table()
     ensures offsets { OffsetsByTable }
     ensures register { AccessesByOffset }
     ensures outside { OutsideIsIgnored }
 {}
 
-/// The effect of accesses on registers, by the table, in every state of the adapter:
-/// - right after a write that is no reset, a register whose row has kept bits reads the kept bits of the written value;
-/// - a write of one register doesn't change what other registers read. The exceptions: a write of CTRL with RST resets
-///   the adapter, CTRL.SLU changes STATUS, ICS changes ICR, and IMC changes IMS. The clause `touched` states the values
-///   that STATUS, ICR and IMS then have;
-/// - a read of one register doesn't change what any other register reads.
+/// The effect of an access on what registers read, by the table of [`offsets`](crate::offsets), in every state.
+/// - `read_back`: if a register's row has kept bits, the register reads the kept bits of the value right after a write
+///   that isn't a reset.
+/// - `others_at_write`: a write of one register doesn't change what other registers read. The exceptions: a write of
+///   CTRL with RST resets the adapter, CTRL.SLU changes STATUS, ICS changes ICR, and IMC changes IMS.
+/// - `touched`: what STATUS reads after a write of CTRL without RST, ICR after a write of ICS, and IMS after a write of
+///   IMC.
+/// - `others_at_read`: a read of one register doesn't change what any other register reads.
 pub fn accesses_by_table()
     ensures read_back { PlainReadsBack }
     ensures others_at_write { OthersStayAtWrite }
@@ -30,9 +34,10 @@ pub fn accesses_by_table()
     ensures others_at_read { OthersStayAtRead }
 {}
 
-/// The reset values of registers, by the table. After power-on, each register reads its reset value. After a write of
-/// CTRL with RST, whatever its other bits, each register except PBA reads its reset value. PBA, the PHY and the EEPROM
-/// don't change.
+/// The reset values of registers, by the table of [`offsets`](crate::offsets).
+/// - `power_on`: after power-on, each register reads its reset value.
+/// - `reset`: after a write of CTRL with RST, whatever its other bits, each register except PBA reads its reset value.
+///   PBA, the PHY and the EEPROM don't change.
 pub fn resets_by_table()
     ensures power_on { PowerOnByTable }
     ensures reset { ResetByTable }
@@ -45,24 +50,28 @@ pub fn plain_by_history()
     ensures { PlainByHistory }
 {}
 
-/// The laws of the crate `registers` apply to EERD, MDIC and the PHY, after any accesses, steps and arrivals since
-/// power-on. A reset by CTRL.RST sets EERD to its value after power-on. For MDIC, the reset counts as a write of 0,
-/// which contains no command.
+/// What EERD, MDIC and the PHY contain after any accesses, steps and arrivals since power-on. The laws of the crate
+/// `registers` define this by the writes and ticks among these events. For EERD, only the events after the last reset
+/// by CTRL.RST count. For MDIC, the reset counts as a write of 0, which contains no command.
 pub fn parts_have_their_laws()
     ensures { PartsHaveTheirLaws }
 {}
 
-/// The effect of steps and arrivals on the frames that an adapter holds, and on the frames to be sent.
-/// - The frames to be sent are those in the transmit packet buffer, then those of the offered transmit descriptors
-///   (from TDH up to, but not including, TDT). `TxTake` doesn't change this list. `TxPut` removes the frame that it
-///   puts, the first one.
-/// - First among the frames held are those that end in finished slots or in the slot in progress, each with its pieces
-///   joined. The frames in the receive packet buffer follow. A stored frame is added at the end. `RxData` doesn't
-///   change these frames. `RxDone` makes the piece in progress a finished piece.
+/// The effect of steps on the frames to be sent, and of steps and arrivals on the frames held.
 ///
-/// The laws of steps that write to memory require that the written bytes don't overlap the descriptors and frames still
-/// to be read. The laws of the frames held require that the slots contain the moved bytes of the oldest frame
-/// (`HasBegun`).
+/// The frames to be sent are those in the transmit packet buffer, then those of the offered transmit descriptors. The
+/// descriptors from TDH up to, but not including, TDT are offered.
+/// - `taking`: `TxTake` doesn't change this list.
+/// - `putting`: `TxPut` removes the frame that it puts, the first one. The status byte that the step may write must be
+///   apart from the offered descriptors and their data.
+///
+/// The frames held are those that end in finished slots or in the slot in progress, then those in the receive packet
+/// buffer. The pieces of each frame are joined. The slots must contain the moved bytes of the packet buffer's oldest
+/// frame (`HasBegun`). For `arrival` and `done`, the receive engine must meet its invariant.
+/// - `arrival`: a stored frame is added at the end of this list. With any other fate, the list doesn't change.
+/// - `data`: `RxData` doesn't change this list. The bytes that it writes must be apart from the descriptor at RDH.
+/// - `done`: `RxDone` doesn't change this list, and makes the piece in progress the last finished piece. The piece and
+///   its descriptor must be inside memory, apart from each other.
 pub fn frames_by_steps()
     ensures taking { TakingLeavesFrames }
     ensures putting { PuttingTakesFirst }

@@ -7,7 +7,7 @@ use std::alloc::AllocError;
 ///
 /// `F` is the type of the frame in an outcome. [`step`](crate::Adapter::step) uses `()`, because
 /// [`to_put`](crate::Adapter::to_put) returns the frame before the step. Lists of outcomes contain the frame itself.
-/// Contracts that compare outcomes use the bytes of the frame (`FrameOutcome`).
+/// Contracts compare outcomes with the bytes of the frame (`FrameOutcome`), which `framed` adds to a step's outcome.
 #[derive(Debug, Drop, PartialEq, Eq)]
 pub enum Outcome<F> {
     /// A frame was copied from memory into the transmit packet buffer, and TDH advanced.

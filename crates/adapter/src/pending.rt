@@ -13,15 +13,16 @@ use rx_engine::{RxEngine, append_finished, append_piece, bytes_in_progress};
 use tx_engine::{TxEngine, append_queued};
 
 impl Adapter {
-    /// Appends the frames still to be sent to `sending`: first those in the transmit packet buffer, then those of the
-    /// offered transmit descriptors. The frames of descriptors are padded to 60 bytes, whether TCTL.PSP is set or not.
-    ///
-    /// Appends the frames held to `holding`. First come the frames that end in finished slots, from slot `oldest` of
-    /// the receive ring on, or in the slot in progress. The frames in the receive packet buffer follow.
+    /// Lists the frames that are dropped if the driver resets the adapter now. `oldest` is the driver's oldest receive
+    /// slot.
+    /// - Appends the frames still to be sent to `sending`: first those in the transmit packet buffer, then those of the
+    ///   offered transmit descriptors. The latter are padded to 60 bytes, whether TCTL.PSP is set or not.
+    /// - Appends the frames held to `holding`. First come those that end in finished slots, from slot `oldest` on, or
+    ///   in the slot in progress. The frames in the receive packet buffer follow.
     ///
     /// The rings, the data of offered transmit descriptors, and the pieces in these receive slots must be inside
-    /// memory, and so must the descriptor of the piece in progress. No frame may exceed 1,518 bytes. TDH must be the
-    /// index of a slot if a transmit slot is offered, and `oldest` if a receive slot is outstanding
+    /// memory. The descriptor of the piece in progress must be inside memory, too. No frame may exceed 1,518 bytes. TDH
+    /// must be the index of a slot if a transmit slot is offered, and so must `oldest` if a receive slot is outstanding
     /// (`specs/Pending.antt`). Both lists must have room for these frames: the call allocates no memory.
     pub fn pending(
         &self,
@@ -41,6 +42,8 @@ impl Adapter {
             ++ frames_to_send (record { memory = memory.now; adapter = self.now }) }
         ensures holding { holding.new.items ≡ holding.old.items
             ++ frames_held oldest (record { memory = memory.now; adapter = self.now }) }
+        // `holding` keeps its room, so a caller may append later frames without an allocation.
+        ensures holding_capacity { vec_capacity holding.old ≤ vec_capacity holding.new }
     {
         let pad = true;
         append_to_put(&self.transmitter, sending);
@@ -49,8 +52,9 @@ impl Adapter {
         append_buffered(&self.receiver, holding);
     }
 
-    /// Appends to `holding` the frames that end in finished slots, from slot `oldest` on, or in the slot in progress.
-    /// The list must have room for these frames, and `CanReadHeld` must hold.
+    /// Appends to `holding` the frames that end in finished slots, from slot `oldest` of the receive ring on, or in the
+    /// slot in progress. The list must have room for these frames. As for [`pending`](Adapter::pending), the slots and
+    /// their pieces must be inside memory, and no frame may exceed 1,518 bytes (`CanReadHeld`).
     fn append_in_slots(&self, memory: &HostMemory, oldest: u16, holding: &mut Vec<Frame>)
         requires can { CanReadHeld oldest (record { memory = memory.now; adapter = self.now }) }
         requires room { length holding.old.items
@@ -61,6 +65,7 @@ impl Adapter {
         ensures room { vec_capacity holding.old ≤ vec_capacity holding.new }
     {
         let ring = self.file.receive_ring.ring();
+        // The beginning of the frame that doesn't end in the slots read so far.
         let mut begun: ArrayVec<u8, 1518> = ArrayVec::new();
         append_finished(memory, &ring, oldest, &mut begun, holding);
         // The descriptor and the piece are inside memory, so `bytes_in_progress` never returns `None`.

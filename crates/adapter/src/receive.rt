@@ -1,7 +1,7 @@
 // Arrivals and steps of reception.
 
 ghost use Rattle.std.specs.Prelude.{◌≡◌, length};
-ghost use Rattle.adapter.specs.DataOutcomes.{causes_of_answer, outcome_of, outcome_of_done};
+ghost use Rattle.adapter.specs.DataOutcomes.{causes_of_data, outcome_of_data, outcome_of_done};
 ghost use Rattle.adapter.specs.Outcomes.{framed};
 ghost use Rattle.adapter.specs.State.{IsAdapter};
 ghost use Rattle.adapter.specs.Receiving.{DataAnswers, DataChangesOnly, DoneAnswers, DoneChangesOnly, IsFate};
@@ -34,9 +34,12 @@ impl Adapter {
         fate
     }
 
-    /// Performs a data step, which writes the next piece of the packet buffer's oldest frame to memory, does nothing,
-    /// or is a fault. If a piece was written, and exactly half of the ring's descriptors are now offered, RXDMT0 is
-    /// recorded. After a fault, data steps do nothing until a reset.
+    /// Performs a step `RxData`, which writes the next piece of the packet buffer's oldest frame to memory. If exactly
+    /// half of the ring's descriptors are then offered, RXDMT0 is recorded.
+    ///
+    /// Returns `Nothing` if RCTL.EN is 0, the packet buffer is empty, no descriptor is offered, a piece is in progress,
+    /// or a fault stopped `RxData`. Otherwise returns `Fault` if RCTL.BSEX is set, if RDH or RDT isn't a slot's index,
+    /// or if descriptor or destination aren't inside memory. A fault stops `RxData` until a reset.
     pub(crate) fn move_piece(&mut self, memory: &mut HostMemory) -> Outcome<()>
         ensures answer { DataAnswers memory.old self.old (framed result self.old) }
         ensures state { self.new ≡ after_data (framed result self.old) self.old }
@@ -49,13 +52,13 @@ impl Adapter {
         let mut ring = file.receive_ring.ring();
         let answer = rx_data(&mut self.receiver, &mut ring, file.filter.rctl(), memory);
         file.receive_ring.head = ring.head;
-        file.causes.raise(causes_of_answer(answer));
-        outcome_of(answer)
+        file.causes.raise(causes_of_data(answer));
+        outcome_of_data(answer)
     }
 
-    /// Performs a done step: writes back the descriptor of the piece in progress, if the descriptor is inside memory.
-    /// If the frame ends in this piece, the step records RXT0, and GPRC counts the frame. Returns `Nothing` if no piece
-    /// is in progress.
+    /// Performs a step `RxDone`, which writes back the descriptor of the piece in progress, if the descriptor is inside
+    /// memory. If the frame ends in this piece, RXT0 is recorded, and GPRC counts the frame. Returns `Nothing` if no
+    /// piece is in progress.
     pub(crate) fn finish_piece(&mut self, memory: &mut HostMemory) -> Outcome<()>
         ensures answer { DoneAnswers self.old (framed result self.old) }
         ensures state { self.new ≡ after_done (framed result self.old) self.old }
@@ -82,7 +85,7 @@ fn is_ending(engine: &RxEngine) -> bool
     }
 }
 
-/// Returns the outcome of a done step with this answer of the engine.
+/// Returns the outcome of a step `RxDone` with this answer of the engine.
 fn outcome_of_done(answer: Done) -> Outcome<()>
     ensures { result ≡ outcome_of_done answer }
 {
@@ -92,9 +95,9 @@ fn outcome_of_done(answer: Done) -> Outcome<()>
     }
 }
 
-/// Returns the outcome of a data step with this answer of the engine.
-fn outcome_of(answer: Data) -> Outcome<()>
-    ensures { result ≡ outcome_of answer }
+/// Returns the outcome of a step `RxData` with this answer of the engine.
+fn outcome_of_data(answer: Data) -> Outcome<()>
+    ensures { result ≡ outcome_of_data answer }
 {
     match answer {
         Data::Nothing => Outcome::Nothing,
@@ -104,10 +107,10 @@ fn outcome_of(answer: Data) -> Outcome<()>
     }
 }
 
-/// Returns the causes that a data step with this answer records: RXDMT0 if the step moved a piece and exactly half of
-/// the ring's descriptors are now offered; otherwise no cause.
-fn causes_of_answer(answer: Data) -> Cause
-    ensures { result.0 ≡ causes_of_answer answer }
+/// Returns the causes that a step `RxData` with this answer of the engine records: RXDMT0 if a piece was moved, and
+/// exactly half of the ring's descriptors are now offered.
+fn causes_of_data(answer: Data) -> Cause
+    ensures { result.0 ≡ causes_of_data answer }
 {
     match answer {
         Data::Part { half_offered: true } | Data::Moved { half_offered: true } => Cause::RXDMT0,

@@ -83,6 +83,7 @@ impl Register {
         if offset % REGISTER_BYTES != 0 {
             return None;
         }
+        // Indices of array registers are at most 127, so the casts don't change them.
         Some(match offset {
             CTRL => Register::Ctrl,
             STATUS => Register::Status,
@@ -119,12 +120,13 @@ impl Register {
 }
 
 /// Returns the register `distance` bytes after RAL(0): RAL of entry `distance / 8` if `distance` is a multiple of 8,
-/// else RAH of this entry. `distance` is below 128, the number of bytes of the 16 pairs.
+/// else RAH of this entry. `distance` must be below 128, the number of bytes of the 16 pairs.
 fn address_register(distance: u32) -> Register
     requires { distance < 128 }
-    ensures even { distance % 8 ≡ 0 → result ≡ Register.Ral (distance / 8) }
-    ensures odd { distance % 8 ≢ 0 → result ≡ Register.Rah (distance / 8) }
+    ensures low { distance % 8 ≡ 0 → result ≡ Register.Ral (distance / 8) }
+    ensures high { distance % 8 ≢ 0 → result ≡ Register.Rah (distance / 8) }
 {
+    // The entry is below 16, so the cast doesn't change it.
     let entry = (distance / ADDRESS_PAIR_BYTES) as u8;
     if distance % ADDRESS_PAIR_BYTES == 0 {
         Register::Ral(entry)

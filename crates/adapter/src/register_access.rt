@@ -15,10 +15,12 @@ use registers::{Ctrl, Tctl};
 /// The bits of VET that a write stores and a read returns.
 const VLAN_TYPE_BITS: u32 = 0xFFFF;
 
-// In contracts, `with_file file rest` is an adapter with this register file. `rest` stands for its other parts.
+// In contracts, `with_file file rest` is an adapter with this register file, and `file_of` is the file of an adapter.
+// `rest` stands for the adapter's other parts: a clause that binds `rest` holds whatever they are.
 impl RegisterFile {
     /// Returns the value of a register, or 0 for `None`, ICS, IMC, STATUS and PBA. STATUS and PBA aren't in the
-    /// register file. An index in `register` must be inside its array.
+    /// register file: `Adapter` reads them, and the clause doesn't cover them. An index in `register` must be inside
+    /// its array.
     #[inline(always)]
     pub(crate) fn value(&self, register: Option<Register>) -> u32
         requires { IfSome register IsInTable }
@@ -52,8 +54,8 @@ impl RegisterFile {
     }
 
     /// Reads a register and returns its value, or 0 for `None`, ICS, IMC, STATUS and PBA. STATUS and PBA aren't in the
-    /// register file. A read of ICR or of a counter clears the register. An index in `register` must be inside its
-    /// array.
+    /// register file: `Adapter` reads them, and the clause `answer` doesn't cover them. A read of ICR or of a counter
+    /// clears the register. An index in `register` must be inside its array.
     #[inline(always)]
     pub(crate) fn read(&mut self, register: Option<Register>) -> u32
         requires { IfSome register IsInTable }
@@ -71,9 +73,9 @@ impl RegisterFile {
         }
     }
 
-    /// Writes a register, by the kept bits of its row or by its other rule. A write of CTRL ignores RST. A write of
-    /// STATUS, of PBA or of a counter changes nothing, and neither does `None`. An index in `register` must be inside
-    /// its array.
+    /// Writes a register: stores the kept bits of its row in the table of offsets, or applies the row's other rule. A
+    /// write of CTRL ignores RST. A write of STATUS, of PBA or of a counter changes nothing, and neither does `None`.
+    /// An index in `register` must be inside its array.
     #[inline(always)]
     pub(crate) fn write(&mut self, register: Option<Register>, value: u32)
         requires { IfSome register IsInTable }

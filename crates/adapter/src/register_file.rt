@@ -11,16 +11,13 @@ ghost use Rattle.adapter.specs.Table.{address_high_at_reset, address_low_at_rese
 use crate::ring::RingRegisters;
 use bitflags::Flags;
 use registers::{Cause, Causes, Counter, Ctrl, Eerd, Image, Mdic, Tctl};
-use rx_engine::{Fate, Filter, VLAN_TYPE};
+use rx_engine::{ADDRESS_VALID, Fate, Filter, VLAN_TYPE};
 use std::alloc::AllocError;
 use std::hash::{Hash, Hasher};
 use tx_engine::Put;
 
 /// The number of bits of a word of the EEPROM.
 const WORD_BITS: u32 = 16;
-
-/// AV, bit 31 of RAH: the address is valid.
-const ADDRESS_VALID: u32 = 1 << 31;
 
 /// The registers that a reset sets: all registers except PBA and the PHY's registers. STATUS isn't stored. The filter
 /// contains RAL, RAH, MTA, VFTA, RCTL and VET.
@@ -66,7 +63,8 @@ impl Clone for RegisterFile {
     }
 }
 
-// In contracts, `with_file file rest` is an adapter with this register file. `rest` stands for its other parts.
+// In contracts, `with_file file rest` is an adapter with this register file, and `file_of` is the file of an adapter.
+// `rest` stands for the adapter's other parts: a clause that binds `rest` holds whatever they are.
 impl RegisterFile {
     ghost use Rattle.std.specs.Prelude.{ℕ, List};
     ghost use Rattle.adapter.specs.DataOutcomes.{file_after_put};
@@ -144,7 +142,7 @@ impl RegisterFile {
         }
     }
 
-    /// Returns the values of MPC, GPRC, GPTC and RNBC, in this order.
+    /// Returns the values of MPC, GPRC, GPTC and RNBC, in the order in which `feed` feeds them.
     fn counter_values(&self) -> [u32; 4]
         ensures { result ≡ self.now.mpc ∷ self.now.gprc ∷ self.now.gptc ∷ self.now.rnbc ∷ [] }
     {

@@ -18,8 +18,11 @@ use tx_engine::{Put, Take, put, take};
 
 impl Adapter {
     /// Performs a step `TxTake`, which copies the frame that the descriptor at TDH points to into the packet buffer,
-    /// does nothing, or is a fault. If a frame was copied, and TDH now equals TDT, TXQE is recorded. After a fault,
-    /// `TxTake` does nothing until a reset.
+    /// and advances TDH. If TDH then equals TDT, TXQE is recorded.
+    ///
+    /// Returns `Nothing` if TCTL.EN is 0, the packet buffer is full, TDH equals TDT, or a fault stopped `TxTake`.
+    /// Otherwise returns `Fault` if TDH or TDT isn't a slot's index, or if the descriptor isn't inside memory or can't
+    /// be transmitted. A fault stops `TxTake` until a reset.
     pub(crate) fn take_frame(&mut self, memory: &HostMemory) -> Outcome<()>
         ensures answer { TakeAnswers memory.now self.old (framed result self.old) }
         ensures state { self.new ≡ after_take (framed result self.old) memory.now self.old }
@@ -45,8 +48,8 @@ impl Adapter {
     }
 
     /// Performs a step `TxPut`, which puts the oldest frame of the packet buffer onto the wire. GPTC counts the frame.
-    /// If the frame's descriptor asks for a report, the step records TXDW, and writes DD to the descriptor's status
-    /// byte if this byte is inside memory. Returns `Nothing` if the packet buffer is empty. Otherwise returns
+    /// If the frame's descriptor asks for a report, DD is written to the descriptor's status byte (if this byte is
+    /// inside memory), and TXDW is recorded. Returns `Nothing` if the packet buffer is empty. Otherwise returns
     /// `WireFull` if `wire_free` is false. In both cases, nothing changes.
     pub(crate) fn put_frame(&mut self, memory: &mut HostMemory, wire_free: bool) -> Outcome<()>
         ensures answer { PutAnswers wire_free self.old (framed result self.old) }

@@ -8,7 +8,7 @@ ghost use Rattle.adapter.specs.Transmitting.{HasNothingToTake};
 use crate::Adapter;
 use crate::step::StepKind;
 use rx_engine::has_frame_to_move;
-use tx_engine::is_idle;
+use tx_engine::has_nothing_to_take;
 
 impl Adapter {
     /// Returns whether a step of this kind has something to do: its outcome isn't `Nothing`. The result depends
@@ -26,11 +26,12 @@ impl Adapter {
         }
     }
 
-    /// Returns whether a step `TxTake` would take a frame or be a fault.
+    /// Returns whether a step `TxTake` would take a frame or be a fault: TCTL.EN is set, a descriptor is offered, the
+    /// packet buffer has room, and no fault has stopped `TxTake`.
     fn has_frame_to_take(&self) -> bool
         ensures { IsTrue result ↔ (¬ (HasNothingToTake self.now)) }
     {
-        !is_idle(
+        !has_nothing_to_take(
             &self.transmitter,
             &self.file.transmit_ring.ring(),
             self.file.tctl,
@@ -44,9 +45,8 @@ impl Adapter {
         !self.transmitter.is_empty()
     }
 
-    /// Returns whether a step `RxData` would move a piece or be a fault: a frame is in the packet buffer, a descriptor
-    /// is offered, and RCTL.EN is set. If the result is true, no fault has stopped the engine, and no piece is in
-    /// progress.
+    /// Returns whether a step `RxData` would move a piece or be a fault: RCTL.EN is set, a frame is in the packet
+    /// buffer, a descriptor is offered, no piece is in progress, and no fault has stopped `RxData`.
     fn has_piece_to_move(&self) -> bool
         ensures { IsTrue result ↔ HasFrameAndDescriptor self.now }
     {

@@ -63,14 +63,14 @@ pub fn take_put_twice(one: &mut SoloBus, other: &mut SoloBus) -> (Option<Frame>,
     (one.take_put(), other.take_put())
 }
 
-/// Calls [`SoloBus::play`] twice.
-pub fn play_twice(one: &mut SoloBus, other: &mut SoloBus, ticks: &[SoloTick])
+/// Calls [`SoloBus::queue`] twice.
+pub fn queue_twice(one: &mut SoloBus, other: &mut SoloBus, ticks: &[SoloTick])
     requires state { one.old ≡ other.old }
     requires room { length one.old.waiting + length ticks.now ≤ MOST_TICKS }
     ensures { one.new ≡ other.new }
 {
-    one.play(ticks);
-    other.play(ticks);
+    one.queue(ticks);
+    other.queue(ticks);
 }
 
 /// Calls [`SoloBus::finish`] twice.

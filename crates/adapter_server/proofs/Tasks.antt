@@ -18,8 +18,8 @@ use Rattle.adapter_server.specs.Answers.{AccessServed, Answered, AnswersChoice, 
 use Rattle.adapter_server.specs.Sessions.{met_before, moves_before, wanted_number, writing_access}
 use Rattle.adapter_server.specs.Tasks.{AnswersAfter, FitsTask, Performs, PlaysTask, task_agenda, task_begun, task_met, task_moves}
 use Rattle.adapter_server.specs.Tasks.{task_wanted}
-use Rattle.adapter_server.specs.declared.session.Place.{Place}
-use Rattle.adapter_server.specs.declared.session.Place.TheVariants.{Memory, Register}
+use Rattle.adapter_server.specs.declared.session.AccessPlace.{AccessPlace}
+use Rattle.adapter_server.specs.declared.session.AccessPlace.TheVariants.{Memory, Register}
 use Rattle.adapter_server.specs.declared.session.Session.{Session}
 use Rattle.adapter_server.specs.declared.task.Task.{Task}
 use Rattle.adapter_server.specs.declared.task.Task.TheVariants as tasks
@@ -56,7 +56,7 @@ no_moves H a b told after =
     subst (λ (t : List Told). H a b t) (sym (after.told_is ∙ ap (λ (t : List Told). t ++ after.rest) after.happens.1))
     (subst (λ (s : PlayedAdapter). H s b after.rest) after.happens.0 after.goes_on)
 
-pub reads : (place : Place) (address : ℕ) (wanted : Wanted) (said : Text) (a b : Session) (text : Text)
+pub reads : (place : AccessPlace) (address : ℕ) (wanted : Wanted) (said : Text) (a b : Session) (text : Text)
     → Performs (tasks.Read place address wanted) said a b text → ReadsAt (Ok place) wanted address said a b text
 reads (Register offset) address wanted said a b text does =
     let after = does.1.happens.happens in
@@ -77,7 +77,7 @@ reads Memory address wanted said a b text does =
           does.1 plays.1 (after_so (ServesLoad address (wanted_size wanted) plays.0) _ _ _ _ after plays.2),
     )
 
-pub writes : (place : Place) (address : ℕ) (bytes : Bor (List ℕ)) (said : Text) (a b : Session) (text : Text)
+pub writes : (place : AccessPlace) (address : ℕ) (bytes : Bor (List ℕ)) (said : Text) (a b : Session) (text : Text)
     → Performs (tasks.Write place address bytes) said a b text
     → Answered (AccessServed (writing_access place address bytes.now) said a b) ok_line text
 writes (Register offset) address bytes said a b text does =

@@ -65,8 +65,8 @@ use Rattle.adapter_server.specs.Sessions.{
   with_setting,
 }
 use Rattle.adapter_server.specs.Sessions.{writing_access}
-use Rattle.adapter_server.specs.declared.session.Place.{Place}
-use Rattle.adapter_server.specs.declared.session.Place.TheVariants.{Register, Memory}
+use Rattle.adapter_server.specs.declared.session.AccessPlace.{AccessPlace}
+use Rattle.adapter_server.specs.declared.session.AccessPlace.TheVariants.{Register, Memory}
 use Rattle.adapter_server.specs.declared.session.Session.{Session}
 use Rattle.adapter_server.specs.declared.snapshot.Server.{Server}
 
@@ -136,13 +136,13 @@ ReadsMemory address wanted said a b text =
     (bytes : List ℕ) × Answered (Loaded address (wanted_size wanted) bytes said a b) (answer_line wanted bytes) text
 
 -- A register or bytes in memory are read, by the place of the access. Without a place, the request is refused.
-abbrev pub ReadsAt : Result Place Refusal → Wanted → (address : ℕ) → (said : Text) → Session → Session → Text → Type 0
+abbrev pub ReadsAt : Result AccessPlace Refusal → Wanted → (address : ℕ) → (said : Text) → Session → Session → Text → Type 0
 ReadsAt (Ok (Register offset)) wanted address said a b text = ReadsRegister offset wanted said a b text
 ReadsAt (Ok Memory) wanted address said a b text = ReadsMemory address wanted said a b text
 ReadsAt (Err refusal) wanted address said a b text = Refuses refusal a b text
 
 -- Bytes are written at this place, and the answer is `OK`. Without a place, the request is refused.
-abbrev pub WritesAt : Result Place Refusal → (address : ℕ) → List ℕ → (said : Text) → Session → Session → Text → Type 0
+abbrev pub WritesAt : Result AccessPlace Refusal → (address : ℕ) → List ℕ → (said : Text) → Session → Session → Text → Type 0
 WritesAt (Ok place) address bytes said a b text = Answered (AccessServed (writing_access place address bytes) said a b) ok_line text
 WritesAt (Err refusal) address bytes said a b text = Refuses refusal a b text
 
@@ -222,7 +222,7 @@ pub record AnswersEnabled (a b : Session) (text : Text) : Type 0 where
   pub replies : Replies (enabled_line (enabled_with works a.device.wire_free)) a b text
 
 -- The name of the target at this place is the answer. Without a place, the request is refused.
-abbrev pub AnswersTarget : Result Place Refusal → (address : ℕ) → Session → Session → Text → Type 0
+abbrev pub AnswersTarget : Result AccessPlace Refusal → (address : ℕ) → Session → Session → Text → Type 0
 AnswersTarget (Ok place) address a b text = Replies (word_line (target_text (target_at_place place address a))) a b text
 AnswersTarget (Err refusal) address a b text = Refuses refusal a b text
 
@@ -324,12 +324,12 @@ SessionDoes requests.Save said a b text = (b ≡ a) × (text ≡ [])
 SessionDoes requests.Restore said a b text = (b ≡ a) × (text ≡ [])
 
 -- a line, and after it the name of the target at this place; without a place, only the line
-abbrev pub said_at : Result Place Refusal → (address : ℕ) → (said : Text) → Session → Text
+abbrev pub said_at : Result AccessPlace Refusal → (address : ℕ) → (said : Text) → Session → Text
 said_at (Ok place) address said session = concat (said ∷ codes " -> " ∷ target_text (target_at_place place address session) ∷ [])
 said_at (Err refusal) address said session = said
 
 -- what the log prints for an access: its line, and after `log targets`, if the access has a place, also the name of the access's target
-abbrev pub access_said : Result Place Refusal → (address : ℕ) → (said : Text) → Session → Text
+abbrev pub access_said : Result AccessPlace Refusal → (address : ℕ) → (said : Text) → Session → Text
 access_said place address said session = if session.targets then said_at place address said session else said
 
 -- what the log prints for a request: its line, and for an access with a place, after `log targets`, also the name of the access's target

@@ -10,7 +10,7 @@ use Rattle.step_schedules.specs.Players.{RecorderState}
 use Rattle.step_schedules.specs.declared.player.Player.{Player}
 use Rattle.adapter.specs.State.{AdapterState}
 use Rattle.played_adapter.specs.FirstAdapters.{first_adapter}
-use Rattle.played_adapter.specs.Playing.{new_watched}
+use Rattle.played_adapter.specs.Playing.{new_without_wire}
 use Rattle.played_adapter.specs.declared.player.PlayedAdapter.{PlayedAdapter}
 use Rattle.adapter_server.specs.declared.options.ServeOptions.{ServeOptions}
 use Rattle.adapter_server.specs.declared.session.Session.{Session}
@@ -21,7 +21,7 @@ adapter_of options = first_adapter options.image options.link options.receive_ki
 
 -- the new adapter with memory of zeros at this address; no frame is offered, and no step is played before or after an access
 abbrev pub new_device : ServeOptions → (address : Option Ptr) → PlayedAdapter
-new_device options address = new_watched (replicate options.memory 0) (adapter_of options) options.seed address
+new_device options address = new_without_wire (replicate options.memory 0) (adapter_of options) options.seed address
 
 -- the agenda of a player, if there is a player
 abbrev pub agenda_of_player : Option Player → Option AgendaState

@@ -26,8 +26,8 @@ use Rattle.step_schedules.specs.Agendas.{AgendaState, coming}
 use Rattle.step_schedules.specs.Players.{RecorderState, begun, chosen}
 use Rattle.step_schedules.specs.declared.deviation.Before.{Before}
 use Rattle.step_schedules.specs.declared.deviation.Before.TheVariants.{Choice, Read, Request, Write}
-use Rattle.adapter_server.specs.declared.session.Place.{Place}
-use Rattle.adapter_server.specs.declared.session.Place.TheVariants.{Memory, Register}
+use Rattle.adapter_server.specs.declared.session.AccessPlace.{AccessPlace}
+use Rattle.adapter_server.specs.declared.session.AccessPlace.TheVariants.{Memory, Register}
 use Rattle.adapter_server.specs.declared.session.Session.{Session}
 
 -- a copy of a session, whose memory has this address; the level of the copy's interrupt line counts as reported
@@ -43,7 +43,7 @@ pub record IsCopied (a copy : Session) : Type 0 where
 
 -- whether a schedule is played
 abbrev pub plays_schedule : Session → Bool
-plays_schedule session = option_map_or (λ (agenda : AgendaState). agenda.plays) session.agenda false
+plays_schedule session = option_map_or (λ (agenda : AgendaState). agenda.has_schedule) session.agenda false
 
 -- the session after a setting; while a schedule is played, `interleave` turns random steps off
 abbrev pub with_setting : Setting → Session → Session
@@ -66,47 +66,48 @@ is_register registers address count =
     (count == 4) && nat_le registers address && nat_lt (address - registers) register_bytes && ((address - registers) % 4 == 0)
 
 -- whether some of the `count` bytes from an address on are bytes of registers
-abbrev pub meets_registers : (registers address count : ℕ) → Bool
-meets_registers registers address count =
+abbrev pub overlaps_registers : (registers address count : ℕ) → Bool
+overlaps_registers registers address count =
     nat_lt 0 count && nat_lt address (registers + register_bytes) && nat_lt registers (address + count)
 
 -- The target of an access of `count` bytes at an address, or why the access is refused. `in_memory` is whether memory contains all of these
 -- bytes. Without an address of the first register, no address reaches registers.
-abbrev pub place_with : Option ℕ → (in_memory : Bool) → (address count : ℕ) → Result Place Refusal
+abbrev pub place_with : Option ℕ → (in_memory : Bool) → (address count : ℕ) → Result AccessPlace Refusal
 place_with (Some registers) in_memory address count =
     if is_register registers address count then Ok (Register (address - registers))
     else if in_memory then Ok Memory
-    else if meets_registers registers address count then Err refusals.Register
+    else if overlaps_registers registers address count then Err refusals.Register
     else Err refusals.Address
 place_with None in_memory address count = if in_memory then Ok Memory else Err refusals.Address
 
 -- the target of an access of `count` bytes at an address, or why the access is refused
-abbrev pub place_in : Session → (address count : ℕ) → Result Place Refusal
+abbrev pub place_in : Session → (address count : ℕ) → Result AccessPlace Refusal
 place_in session address count = place_with (registers_of session.function) (has_bytes session.device address count) address count
 
 -- the access that writes bytes at this place
-abbrev pub writing_access : Place → (address : ℕ) → List ℕ → Access
+abbrev pub writing_access : AccessPlace → (address : ℕ) → List ℕ → Access
 writing_access (Register offset) address bytes = Writes offset (from_le_bytes w32 bytes)
 writing_access Memory address bytes = Stores address bytes
 
 -- The bytes fit the place: there are four bytes for a register, or memory contains all of the bytes.
-abbrev pub FitsPlace : Place → (address : ℕ) → List ℕ → PlayedAdapter → Type 0
+abbrev pub FitsPlace : AccessPlace → (address : ℕ) → List ℕ → PlayedAdapter → Type 0
 FitsPlace (Register offset) address bytes device = length bytes ≡ 4
 FitsPlace Memory address bytes device = has_bytes device address (length bytes) ≡ true
 
 -- The moves of a player.
 
--- the agenda, if there is one, after it has met an access of a target with this name, or a request with this first word
+-- the agenda, if there is one, after it has counted an access of a target with this name, or a request with this first word
 abbrev pub met_agenda : Before → (name : Text) → Option AgendaState → Option AgendaState
 met_agenda before name agenda = option_map (met before name) agenda
 
--- The recorder, if there is one, whose event is the next access or request with this name that the agenda meets. Without an agenda, the
--- recorder doesn't change.
+-- The recorder, if there is one, after it began the next access or request, which has this kind and name. Without an agenda, the recorder
+-- doesn't change.
 abbrev pub begun_recorder : Before → (name : Text) → Option AgendaState → Option RecorderState → Option RecorderState
 begun_recorder before name agenda recorder =
     option_map_or (λ (agenda : AgendaState). option_map (begun (coming before name agenda)) recorder) agenda recorder
 
--- the session after its player, if there is one, has met an access of a target with this name, or a request with this first word
+-- The session after its player, if there is one, has met an access of a target with this name, or a request with this first word: the
+-- recorder began the access or request, and the agenda counted it.
 abbrev pub meeting : Before → (name : Text) → Session → Session
 meeting before name session = record session {
   agenda = met_agenda before name session.agenda;
@@ -139,12 +140,12 @@ abbrev pub target_name : Access → Session → Text
 target_name access session = target_text (target_of access session.device.machine.world.adapter)
 
 -- the target of an access at this place; the address matters only for a place in memory
-abbrev pub target_in : Place → (address : ℕ) → AdapterState → Target
+abbrev pub target_in : AccessPlace → (address : ℕ) → AdapterState → Target
 target_in (Register offset) address adapter = targets.Register offset
 target_in Memory address adapter = memory_target_in adapter address
 
 -- the target of an access at this place of the session's adapter and memory
-abbrev pub target_at_place : Place → (address : ℕ) → Session → Target
+abbrev pub target_at_place : AccessPlace → (address : ℕ) → Session → Target
 target_at_place place address session = target_in place address session.device.machine.world.adapter
 
 -- the moves of the player, if there is one, before this access

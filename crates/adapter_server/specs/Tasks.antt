@@ -21,15 +21,15 @@ use Rattle.step_schedules.specs.declared.deviation.Before.{Before}
 use Rattle.step_schedules.specs.declared.deviation.Before.TheVariants.{Choice, Read, Request, Write}
 use Rattle.adapter_server.specs.Answers.{Answered, Played, PlaysArrival, PlaysOffer, PlaysSettle, PlaysStep}
 use Rattle.adapter_server.specs.Sessions.{FitsPlace, begun_recorder, met_agenda, moves_with, target_in, wanted_with, writing_access}
-use Rattle.adapter_server.specs.declared.session.Place.{Place}
-use Rattle.adapter_server.specs.declared.session.Place.TheVariants.{Memory, Register}
+use Rattle.adapter_server.specs.declared.session.AccessPlace.{AccessPlace}
+use Rattle.adapter_server.specs.declared.session.AccessPlace.TheVariants.{Memory, Register}
 use Rattle.adapter_server.specs.declared.session.Session.{Session}
 use Rattle.adapter_server.specs.declared.task.Task.{Task}
 use Rattle.adapter_server.specs.declared.task.Task.TheVariants as tasks
 
 -- What the player meets.
 
--- what a player meets at a task; a player doesn't meet `clock_step` and `clock_set`
+-- the kind of the task's access or request in schedules; schedules don't contain `clock_step` and `clock_set`
 abbrev pub task_before : Task → Option Before
 task_before (tasks.Read place address wanted) = Some Read
 task_before (tasks.Write place address bytes) = Some Write
@@ -51,30 +51,32 @@ task_word (tasks.Offer frame) = codes "offer"
 task_word (tasks.Choose limit) = codes "choose"
 task_word (tasks.SetClock time) = []
 
--- the name that a player meets: the name of an access's target, or the first word of another request; an empty text for `SetClock`
+-- The name of the task's access or request in schedules: the name of an access's target, or the first word of another request. An empty
+-- text if the task sets the clock.
 abbrev pub task_name : Task → AdapterState → Text
 task_name (tasks.Read place address wanted) adapter = target_text (target_in place address adapter)
 task_name (tasks.Write place address bytes) adapter = target_text (target_in place address adapter)
 task_name task adapter = task_word task
 
--- the agenda, if there is one, after it has met the task; the same agenda if players don't meet the task
+-- the agenda, if there is one, after it has counted the task's access or request; the same agenda if the task sets the clock
 abbrev pub task_agenda : Task → AdapterState → Option AgendaState → Option AgendaState
 task_agenda task adapter agenda =
     option_map_or (λ (before : Before). met_agenda before (task_name task adapter) agenda) (task_before task) agenda
 
--- the session after its recorder, if there is a player, began the task; the same session if players don't meet the task
+-- the session after its recorder, if there is a player, began the task's access or request; the same session if the task sets the clock
 abbrev pub task_begun : Task → Session → Session
 task_begun task session =
     let recorder = session.kept.recorder in
     let begun = λ (before : Before). begun_recorder before (task_name task session.device.machine.world.adapter) session.agenda recorder in
     record session { kept = record session.kept { recorder = option_map_or begun (task_before task) recorder } }
 
--- the session after its player, if there is one, has met the task; the same session if players don't meet the task
+-- The session after its player, if there is one, has met the task: the recorder began the task's access or request, and the agenda counted
+-- it. The same session if the task sets the clock.
 abbrev pub task_met : Task → Session → Session
 task_met task session =
     record (task_begun task session) { agenda = task_agenda task session.device.machine.world.adapter session.agenda }
 
--- the moves of the agenda, if there is one, before the task; no moves if players don't meet the task
+-- the moves of the agenda, if there is one, before the task; no moves if the task sets the clock
 abbrev pub task_moves : Task → PlayedAdapter → Option AgendaState → List Move
 task_moves task device agenda =
     option_map_or (λ (before : Before). moves_with before (task_name task device.machine.world.adapter) device agenda) (task_before task) []
@@ -101,13 +103,13 @@ FitsTask (tasks.Write place address bytes) into device = FitsPlace place address
 FitsTask task into device = ⊤
 
 -- These bytes are read at a place. The lowest byte of a register is the first.
-abbrev pub ReadsFrom : Place → (address size : ℕ) → (bytes : List ℕ) → PlayedAdapter → PlayedAdapter → List Told → Type 0
+abbrev pub ReadsFrom : AccessPlace → (address size : ℕ) → (bytes : List ℕ) → PlayedAdapter → PlayedAdapter → List Told → Type 0
 ReadsFrom (Register offset) address size bytes a b told =
     (value : ℕ) × (bytes ≡ to_le_bytes w32 value) × ServesAccess (Reads offset value) a b told
 ReadsFrom Memory address size bytes a b told = ServesLoad address size bytes a b told
 
 -- Bytes are read at a place, and these bytes are the answer.
-abbrev pub PlaysRead : Place → (address : ℕ) → Wanted → (line : Text) → PlayedAdapter → PlayedAdapter → List Told → Type 0
+abbrev pub PlaysRead : AccessPlace → (address : ℕ) → Wanted → (line : Text) → PlayedAdapter → PlayedAdapter → List Told → Type 0
 PlaysRead place address wanted line a b told =
     (bytes : List ℕ) × (line ≡ answer_line wanted bytes) × ReadsFrom place address (wanted_size wanted) bytes a b told
 

@@ -1,4 +1,4 @@
-// Answers to requests.
+// Answers to requests. `TellsAnswer` states that the answer was written, or at an error a beginning of the answer.
 
 ghost use Rattle.adapter_server.specs.Answers.{MovesClock, SessionDoes, TellsAnswer, request_said};
 ghost use Rattle.adapter_server.specs.Tasks.{FitsTask, Performs};
@@ -13,11 +13,14 @@ use server_requests::{NextLine, Refusal, Request, Stop, read_line};
 use std::alloc::Global;
 use std::io::Write;
 
-/// Plays a task after the moves of the player, and answers the task.
+/// Plays a task, and writes the answer of its request. `said` is the text that the log prints for the request.
 ///
-/// The player, if there is one, first meets the task, unless the task sets the clock. The bytes of a read are stored
-/// in `into`; other tasks don't use `into`. The bytes of an access must fit its place, and `into` must have the size of
-/// a read (`FitsTask`). `said` is the text that the log prints for the request.
+/// If there is a player, its moves before the task are played first. These are the actions that are due in the
+/// schedule, and before an access also the default steps of the EEPROM and the PHY. A task that sets the clock has no
+/// moves. The player's recorder notes actions that have an effect.
+///
+/// The bytes of a read are stored in `into`; other tasks don't use `into`. The bytes of an access must fit its place,
+/// and `into` must have the size of a read (`FitsTask`).
 pub(crate) fn perform<W: Write>(
     session: &mut Session,
     alloc: Global,
@@ -42,12 +45,16 @@ pub(crate) fn perform<W: Write>(
     let agenda = &mut session.agenda;
     match task.perform(alloc, device, agenda, into, &mut lines) {
         Ok(answer) => lines.end(answer),
+        // A task fails only if memory is refused.
         Err(_) => Err(AnswerError::Memory),
     }
 }
 
-/// Answers `clock_step` or `clock_set`: settles, sets the clock to this time, and answers with this time. If `time` is
-/// `None`, the time is too great, and the request is refused. `said` is the line of the request.
+/// Answers `clock_step` or `clock_set` with `time`, and sets the clock to `time`. First delivers all offered frames,
+/// and plays cycles until one does nothing, or until their maximum.
+///
+/// If `time` is `None`, the time would be 2^64 nanoseconds or more, and the request is refused. `said` is the line of
+/// the request.
 fn move_clock<W: Write>(
     session: &mut Session,
     alloc: Global,
@@ -62,14 +69,15 @@ fn move_clock<W: Write>(
         return refuse(out, Refusal::Value);
     };
     let done = perform(session, alloc, out, said, Task::SetClock(time), &mut []);
+    // The clock is also set at an error, which ends the server.
     session.clock = time;
     done
 }
 
-/// Answers a request that a session answers. Does nothing at `save` and `restore`, which the server answers.
+/// Answers a request. Does nothing at `save` and `restore`, which [`Server::answer`] answers.
 ///
-/// After the request `log targets`, the log's line of an access ends with the name of the access's target. `said` is
-/// the line of the request.
+/// `said` is the line of the request. After the request `log targets`, the log's line of an access ends with the name
+/// of the access's target (`request_said`).
 fn answer_session<W: Write>(
     session: &mut Session,
     alloc: Global,
@@ -143,6 +151,7 @@ impl Server {
     }
 
     /// Answers a line, or refuses a line that is too long or isn't a request. Does nothing at the end of the input.
+    /// `next` is the result of reading the line.
     pub(crate) fn answer_next<W: Write>(
         &mut self,
         alloc: Global,

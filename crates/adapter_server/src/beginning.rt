@@ -28,21 +28,24 @@ fn adapter_of(alloc: Global, options: &ServeOptions) -> Result<Adapter, AllocErr
 }
 
 /// Returns a new adapter with memory of zeros. No frame is offered, and no step is played before or after an access.
+/// Frames that the adapter puts don't wait on a wire: only the observer gets them.
 fn new_device(alloc: Global, options: &ServeOptions) -> Result<PlayedAdapter, AllocError>
+    // Contracts don't define the address of the memory, so the clause uses the result's address.
     ensures { IfOk result (λ device. device ≡ new_device options.now device.address) }
 {
     let memory = HostMemory::new(alloc, options.memory)?;
     let adapter = adapter_of(alloc, options)?;
-    PlayedAdapter::watched(alloc, adapter, memory, options.seed)
+    PlayedAdapter::without_wire(alloc, adapter, memory, options.seed)
 }
 
-/// Returns a server before the first request: a new adapter with memory of zeros, and this player. Log and events are
-/// off, the clock is at 0, and there is no saved copy.
+/// Returns a server before the first request: a new adapter with memory of zeros, and this player, if there is one. Log
+/// and events are off, the clock is at 0, and there is no saved copy.
 pub(crate) fn new_server(
     alloc: Global,
     options: &ServeOptions,
     player: Option<Player>,
 ) -> Result<Server, AnswerError>
+    // Contracts don't define the address of the memory, so the clause uses the result's address.
     ensures { IfOk result (λ server. server ≡ new_server options.now player server.session.device.address) }
 {
     let (agenda, recorder) = match player {

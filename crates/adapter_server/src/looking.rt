@@ -60,7 +60,7 @@ fn say_target<W: Write>(
     }
 }
 
-/// Answers `faults` with the faults that the server keeps, and forgets them.
+/// Answers `faults` with the faults that the server keeps, and forgets these faults, also at an error.
 fn fetch_faults<W: Write>(
     session: &mut Session,
     alloc: Global,
@@ -73,7 +73,8 @@ fn fetch_faults<W: Write>(
     say_faults(alloc, out, &faults)
 }
 
-/// Answers a request for a report.
+/// Answers a request that returns state of the adapter or the server, and plays nothing. `frames` and `faults` also
+/// remove the frames and faults that they return.
 pub(crate) fn look<W: Write>(
     session: &mut Session,
     alloc: Global,

@@ -1,4 +1,5 @@
-// A player meets tasks.
+// A player meets tasks: the agenda's moves before the task's access or request are played, and the agenda counts this
+// access or request. The recorder notes actions that have an effect.
 
 ghost use Rattle.std.specs.Prelude.{◌≡◌, IfOk, OnOk, Some};
 ghost use Rattle.adapter_server.specs.Sessions.{moves_with};
@@ -14,8 +15,11 @@ use server_output::Answer;
 use std::alloc::{AllocError, Global};
 use step_schedules::{Agenda, Before};
 
-/// Makes the agenda meet an access of a target with this name, or a request with this first word. Plays the moves
-/// before the access or request. Returns the number that the first due action chooses, or 0.
+/// Plays the agenda's moves before the access or request that comes next in the run, and counts this access or request
+/// in the agenda. Returns the number that the first due action chooses, or 0 if there is no such number.
+///
+/// `before` is the kind of the access or request. `name` is the name of the access's target, or the first word of the
+/// request.
 fn meet_named<O: Observer>(
     device: &mut PlayedAdapter,
     agenda: &mut Agenda,
@@ -29,11 +33,13 @@ fn meet_named<O: Observer>(
     ensures wanted { result ≡ chosen (due_in_agenda before name.now agenda.old) }
 {
     let event = agenda.coming(before, name);
+    // Counting the event changes which actions are due, so the number is found first.
     let wanted = agenda.chosen(&event);
+    // Each arm counts the event.
     match before {
         Before::Read | Before::Write => device.meet_access(agenda, before, name, observer),
         Before::Request => device.meet_request(agenda, before, name, observer),
-        // A request for a number has no moves.
+        // A request for a number has no moves, so it is only counted.
         Before::Choice => agenda.count(&event),
     }
     wanted
@@ -42,8 +48,8 @@ fn meet_named<O: Observer>(
 impl Session {
     ghost use Rattle.adapter_server.specs.Tasks.{task_begun};
 
-    /// Makes the recorder, if there is a player, begin the event of a task, unless the task sets the clock. Fails only
-    /// if memory is refused.
+    /// If there is a player, the recorder begins the task's access or request. Actions that are noted from now on were
+    /// played before this access or request. Does nothing if the task sets the clock. Fails only if memory is refused.
     #[inline]
     pub(crate) fn begin(&mut self, alloc: Global, task: Task<'_>) -> Result<(), AllocError>
         ensures { OnOk result (self.new ≡ task_begun task.entry self.old) }
@@ -58,6 +64,7 @@ impl Session {
             return Ok(());
         };
         let name = task.name(alloc, &self.device.machine)?;
+        // The place in the run, not the target of an access.
         let place = agenda.coming(before, name.as_bytes()).place;
         recorder.begin(place, before, name);
         Ok(())
@@ -68,8 +75,9 @@ impl<'a> Task<'a> {
     ghost use Rattle.adapter_server.specs.Tasks.{FitsTask, PlaysTo, task_agenda, task_moves, task_wanted};
     ghost use Rattle.server_output.specs.Answers.{IsSized};
 
-    /// Makes the agenda, if there is one, meet the task, unless the task sets the clock. Plays the moves before the
-    /// task. Returns the number that is due at `choose` in a schedule, or 0.
+    /// If there is an agenda, plays its moves before the task's access or request, and counts this access or request,
+    /// as [`meet_named`] does. Does nothing if the task sets the clock. Returns the number that the first due action
+    /// chooses, or 0. Only the task `choose` uses this number.
     fn meet<O: Observer>(
         self,
         device: &mut PlayedAdapter,
@@ -96,8 +104,8 @@ impl<'a> Task<'a> {
         }
     }
 
-    /// Makes the agenda, if there is one, meet the task, as [`meet`](Task::meet) does. Then plays the task, and returns
-    /// the answer, as [`play`](Task::play) does. The precondition and the error are those of `play`.
+    /// Plays the agenda's moves before the task, as [`meet`](Task::meet) does. Then plays the task, and returns the
+    /// answer, as [`play`](Task::play) does. The precondition and the error are those of `play`.
     pub(crate) fn perform<'b, O: Observer>(
         self,
         alloc: Global,

@@ -27,7 +27,8 @@ pub struct ServeOptions {
 
 impl ServeOptions {
     /// Returns the defaults: 1 MiB of memory, registers from 0xFEB00000 on, an EEPROM with the address
-    /// 02:00:00:00:00:01, a link that is up after one tick of the PHY, 48 kilobytes, seed 0, and no missed packet.
+    /// 02:00:00:00:00:01, a link that is up after one tick of the PHY, 48 kilobytes of receive packet buffer, seed 0,
+    /// and no missed packet.
     pub fn new() -> ServeOptions
         ensures { result ≡ default_options }
     {

@@ -1,4 +1,5 @@
-// Answers all lines of an input.
+// Answers all lines of an input. The contracts apply if contracts can see the bytes of the input (`R.remaining`) and of
+// the output (`W.contents`).
 
 ghost use Rattle.std.specs.Prelude.{◌≡◌, IfErr, IfOk, IfSome, OnErr, OnOk};
 ghost use Rattle.adapter_server.specs.Answers.{TellsAnswer};
@@ -18,7 +19,8 @@ use std::io::{BufRead, Write};
 use step_schedules::Player;
 use text::turns;
 
-/// Writes the answer to a line, and flushes the output. At the end of the input, only flushes the output.
+/// Writes the answer to a line, and flushes the output. At the end of the input, only flushes the output. `next` is the
+/// result of reading the line.
 fn answer_and_send<W: Write>(
     server: &mut Server,
     alloc: Global,
@@ -33,7 +35,8 @@ fn answer_and_send<W: Write>(
     send(output)
 }
 
-/// Answers each line of the input before reading the next line. The errors are those of [`serve`].
+/// Answers each line of the input before reading the next line, until the input ends. The errors are those of
+/// [`serve`].
 #[tactic(auto, using(crate::proofs::ServedLines::never_read))]
 fn serve_lines<R: BufRead, W: Write>(
     server: &mut Server,
@@ -41,10 +44,13 @@ fn serve_lines<R: BufRead, W: Write>(
     input: &mut R,
     output: &mut W,
 ) -> Result<(), ServeError>
+    // All lines were answered.
     ensures ok { OnOk result (IfSome (R.remaining input.old) (λ bytes.
         WritesText (W.contents output.old) (W.contents output.new) (ServesWhole bytes server.old server.new))) }
+    // At `Read`, the first n lines were answered, for some n, and nothing else was written.
     ensures read { IfErr result (λ error. error ≡ errors.Read → IfSome (R.remaining input.old) (λ bytes.
         WritesText (W.contents output.old) (W.contents output.new) (ServesFront bytes server.old))) }
+    // At any error, the first n lines were answered, for some n. Then a beginning of the next answer may follow.
     ensures begun { OnErr result (IfSome (R.remaining input.old) (λ bytes.
         WritesText (W.contents output.old) (W.contents output.new) (ServesBegun bytes server.old))) }
 {
@@ -98,6 +104,7 @@ pub fn serve<R: BufRead + Drop, W: Write>(
     let mut server = new_server(alloc, options, player)?;
     let served = serve_lines(&mut server, alloc, &mut input, output);
     let left = server.into_player();
+    // At an error, the player is dropped.
     served?;
     Ok(left)
 }

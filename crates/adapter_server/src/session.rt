@@ -1,7 +1,7 @@
 // The state of an adapter that is served.
 
 ghost use Rattle.std.specs.Prelude.{◌≡◌, ◌-◌, None, Some, if◌then◌else◌};
-ghost use Rattle.adapter_server.specs.Sessions.{is_register, meets_registers, place_with};
+ghost use Rattle.adapter_server.specs.Sessions.{is_register, overlaps_registers, place_with};
 
 use crate::task::Task;
 use played_adapter::PlayedAdapter;
@@ -36,7 +36,7 @@ pub struct Session {
 
 /// The target of an access.
 #[derive(Clone, Copy)]
-pub enum Place {
+pub enum AccessPlace {
     /// The register at this offset, in bytes.
     Register(u32),
     /// Bytes of memory.
@@ -45,9 +45,10 @@ pub enum Place {
 
 /// Returns whether some of the `count` bytes from an address on are bytes of registers. `registers` is the address of
 /// the first register.
-fn meets_registers(registers: u64, address: u64, count: u64) -> bool
-    ensures { result ≡ meets_registers registers address count }
+fn overlaps_registers(registers: u64, address: u64, count: u64) -> bool
+    ensures { result ≡ overlaps_registers registers address count }
 {
+    // Sums of `u64` can't overflow `u128`.
     let address = u128::from(address);
     let registers = u128::from(registers);
     let end = address + u128::from(count);
@@ -75,24 +76,27 @@ fn register_at(registers: u64, address: u64, count: u64) -> Option<u32>
 /// `registers` is the address of the first register, or `None` if no address reaches registers. `in_memory` is true if
 /// memory contains all bytes of the access. If memory also contains bytes of registers, an access of four aligned bytes
 /// reaches the register, and any other access reaches memory.
+///
+/// An access that reaches neither a register nor memory is refused: with `Register` if some of its bytes are bytes of
+/// registers, else with `Address`.
 fn place_with(
     registers: Option<u64>,
     in_memory: bool,
     address: u64,
     count: u64,
-) -> Result<Place, Refusal>
+) -> Result<AccessPlace, Refusal>
     ensures { result ≡ place_with registers in_memory address count }
 {
     if let Some(registers) = registers {
         if let Some(offset) = register_at(registers, address, count) {
-            return Ok(Place::Register(offset));
+            return Ok(AccessPlace::Register(offset));
         }
-        if !in_memory && meets_registers(registers, address, count) {
+        if !in_memory && overlaps_registers(registers, address, count) {
             return Err(Refusal::Register);
         }
     }
     if in_memory {
-        Ok(Place::Memory)
+        Ok(AccessPlace::Memory)
     } else {
         Err(Refusal::Address)
     }
@@ -104,7 +108,7 @@ impl Session {
     ghost use Rattle.adapter_server.specs.Tasks.{named_line};
 
     /// Returns a copy that shares no memory with the session. The level of the copy's interrupt line counts as
-    /// reported.
+    /// reported, so the copy reports only later changes.
     pub(crate) fn copy(&self) -> Result<Session, AllocError>
         ensures { IfOk result (λ copy. IsCopied self.now copy) }
     {
@@ -118,17 +122,18 @@ impl Session {
         })
     }
 
-    /// Returns whether a schedule is played.
+    /// Returns whether a schedule is played. A player that only records plays no schedule.
     pub(crate) fn plays_schedule(&self) -> bool
         ensures { result ≡ plays_schedule self.now }
     {
         match &self.agenda {
-            Some(agenda) => agenda.plays(),
+            Some(agenda) => agenda.has_schedule(),
             None => false,
         }
     }
 
-    /// Changes a setting for later requests. While a schedule is played, `Interleave` turns random steps off.
+    /// Changes a setting for later requests. While a schedule is played, `Interleave` turns random steps off, because
+    /// the schedule determines the steps.
     pub(crate) fn set(&mut self, setting: Setting)
         ensures { self.new ≡ with_setting setting self.old }
     {
@@ -162,7 +167,7 @@ impl Session {
     }
 
     /// Returns the target of an access of `count` bytes at an address, or why the access is refused.
-    pub(crate) fn place_of(&self, address: u64, count: u64) -> Result<Place, Refusal>
+    pub(crate) fn place_of(&self, address: u64, count: u64) -> Result<AccessPlace, Refusal>
         ensures { result ≡ place_in self.now address count }
     {
         place_with(

@@ -18,7 +18,8 @@ pub struct Server {
     pub saved: Option<Session>,
 }
 
-/// Stores a value at a place, and drops the value that was there.
+/// Stores a value at a place, and drops the value that was there. This is a function because the proofs of `save` and
+/// `restore` use its clause.
 fn put_in_place<T: Drop>(place: &mut T, value: T)
     ensures { place.new ≡ value }
 {
@@ -29,7 +30,8 @@ impl Server {
     ghost use Rattle.adapter_server.specs.Answers.{Restores, Saves, TellsAnswer};
     ghost use Rattle.adapter_server.specs.Serving.{player_of};
 
-    /// Returns the player, or `None` if the agenda or the recorder is missing. Drops everything else.
+    /// Returns the player: the agenda and the recorder of the session. Returns `None` if one of them is missing. Drops
+    /// everything else.
     pub(crate) fn into_player(mut self) -> Option<Player>
         ensures { result ≡ player_of self.session.agenda self.session.kept.recorder }
     {
@@ -51,8 +53,8 @@ impl Server {
         say(out, b"OK\n")
     }
 
-    /// Answers `restore`: replaces the session by a copy of the saved session, and reports a change of the interrupt
-    /// line. Refuses if nothing was saved.
+    /// Answers `restore`: replaces the session by a copy of the saved session. Reports the level of the interrupt line
+    /// if the replaced session had another level. Refuses the request if nothing was saved.
     pub(crate) fn restore<W: Write>(&mut self, out: &mut W) -> Result<(), AnswerError>
         ensures { TellsAnswer result (W.contents out.old) (W.contents out.new)
             (Restores self.old.saved self.old) self.new }

@@ -7,7 +7,7 @@ ghost use Rattle.adapter_server.specs.Tasks.{ReadsFrom};
 ghost use Rattle.played_adapter.specs.Order.{Tells};
 ghost use Rattle.played_adapter.specs.Requests.{ServesAccess};
 
-use crate::session::Place;
+use crate::session::AccessPlace;
 use access_names::{Target, memory_target};
 use adapter::StepKind;
 use bus::Machine;
@@ -20,13 +20,13 @@ use step_schedules::Before;
 /// The size of a register, in bytes.
 pub(crate) const REGISTER_WIDTH: usize = 4;
 
-/// What the adapter does for a request, after the moves of a player.
+/// What the adapter does for a request, after the moves that a player plays before it.
 #[derive(Clone, Copy)]
 pub enum Task<'a> {
     /// Bytes at this place are read, and the answer has this form. In memory, the first byte is at this address.
-    Read(Place, u64, Wanted),
+    Read(AccessPlace, u64, Wanted),
     /// These bytes are written at this place. In memory, the first byte is at this address.
-    Write(Place, u64, &'a [u8]),
+    Write(AccessPlace, u64, &'a [u8]),
     /// `step`: a step of this kind is played.
     Step(StepKind),
     /// `arrive`: this frame is delivered.
@@ -42,12 +42,12 @@ pub enum Task<'a> {
 }
 
 /// Returns the target of an access at a place. The address matters only for a place in memory.
-pub(crate) fn target_at(machine: &Machine, place: Place, address: u64) -> Target
+pub(crate) fn target_at(machine: &Machine, place: AccessPlace, address: u64) -> Target
     ensures { result ≡ target_in place address machine.now.world.adapter }
 {
     match place {
-        Place::Register(offset) => Target::Register(offset),
-        Place::Memory => memory_target(machine, address),
+        AccessPlace::Register(offset) => Target::Register(offset),
+        AccessPlace::Memory => memory_target(machine, address),
     }
 }
 
@@ -61,11 +61,14 @@ fn register_value(bytes: &[u8]) -> u32
     u32::from_le_bytes(all)
 }
 
-/// Serves a read of bytes at a place: plays what the generator draws, reads the bytes into `into`, and plays cycles. A
-/// read of a register needs 4 bytes in `into`. Memory must contain all bytes that are read from it.
+/// Reads bytes at a place into `into`. Before the read, plays the steps and arrivals that the generator draws. After
+/// the read, plays up to `pace` cycles.
+///
+/// A read of a register needs 4 bytes in `into`, and ignores `address`. Memory must contain all bytes that are read
+/// from it.
 fn read_from<O: Observer>(
     device: &mut PlayedAdapter,
-    place: Place,
+    place: AccessPlace,
     address: u64,
     into: &mut [u8],
     observer: &mut O,
@@ -75,19 +78,22 @@ fn read_from<O: Observer>(
         (ReadsFrom place address (length into.old) into.new device.old device.new) }
 {
     match place {
-        Place::Register(offset) => {
+        AccessPlace::Register(offset) => {
             let value = device.serve_read(offset, observer);
             into.copy_from_slice(&value.to_le_bytes());
         }
-        Place::Memory => device.serve_load(address, into, observer),
+        AccessPlace::Memory => device.serve_load(address, into, observer),
     }
 }
 
-/// Serves a write of bytes at a place: plays what the generator draws, writes the bytes, and plays cycles. A register
-/// takes 4 bytes. Memory must contain the places of all bytes that are written to it.
+/// Writes bytes at a place. Before the write, plays the steps and arrivals that the generator draws. After the write,
+/// plays up to `pace` cycles.
+///
+/// A write of a register needs 4 bytes, and ignores `address`. Memory must contain the places of all bytes that are
+/// written to it.
 fn write_to<O: Observer>(
     device: &mut PlayedAdapter,
-    place: Place,
+    place: AccessPlace,
     address: u64,
     bytes: &[u8],
     observer: &mut O,
@@ -97,10 +103,10 @@ fn write_to<O: Observer>(
         (ServesAccess (writing_access place address bytes.now) device.old device.new) }
 {
     match place {
-        Place::Register(offset) => {
+        AccessPlace::Register(offset) => {
             device.serve_write(offset, register_value(bytes), observer);
         }
-        Place::Memory => device.serve_store(address, bytes, observer),
+        AccessPlace::Memory => device.serve_store(address, bytes, observer),
     }
 }
 
@@ -108,7 +114,8 @@ impl<'a> Task<'a> {
     ghost use Rattle.adapter_server.specs.Tasks.{FitsTask, PlaysTo, task_before, task_name, task_word};
     ghost use Rattle.server_output.specs.Answers.{IsSized};
 
-    /// Returns what a player meets at the task, or `None` if the task sets the clock.
+    /// Returns the kind of the task's access or request in schedules. Returns `None` if the task sets the clock:
+    /// schedules don't contain `clock_step` and `clock_set`.
     pub(crate) fn before(self) -> Option<Before>
         ensures { result ≡ task_before self.entry }
     {
@@ -121,7 +128,8 @@ impl<'a> Task<'a> {
         }
     }
 
-    /// Returns the first word of the task's request, or an empty text if the task is an access or sets the clock.
+    /// Returns the first word of the task's request, which is the request's name in schedules. Returns an empty text if
+    /// the task is an access, whose name is that of its target, or sets the clock.
     pub(crate) fn word(self) -> &'static str
         ensures { result.now ≡ task_word self.entry }
     {
@@ -135,8 +143,8 @@ impl<'a> Task<'a> {
         }
     }
 
-    /// Returns the name that a player meets: the name of an access's target, or the first word of another request.
-    /// Returns an empty text if the task sets the clock.
+    /// Returns the name of the task's access or request in schedules: the name of an access's target, or the first word
+    /// of another request. Returns an empty text if the task sets the clock.
     pub(crate) fn name(self, alloc: Global, machine: &Machine) -> Result<String, AllocError>
         ensures { IfOk result (λ name. string_bytes name ≡ task_name self.entry machine.now.world.adapter) }
     {
@@ -147,7 +155,7 @@ impl<'a> Task<'a> {
         }
     }
 
-    /// Plays a task, and returns the answer.
+    /// Plays a task without the moves of a player, and returns the answer.
     ///
     /// The bytes of a read are stored in `into`; other tasks don't use `into`. The bytes of an access must fit its
     /// place, and `into` must have the size of a read (`FitsTask`). `wanted` is the number that is due at `choose` in a

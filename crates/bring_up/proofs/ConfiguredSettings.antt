@@ -9,7 +9,7 @@ use Rattle.adapter.specs.Registers.{adapter_at_reset}
 use Rattle.adapter.specs.State.{AdapterState}
 use Rattle.adapter.specs.Table.{address_high_at_reset, address_low_at_reset}
 use Rattle.bus.specs.Settings.{Settings, Write, settings_after_all, settings_of}
-use Rattle.bring_up.specs.Configuration.{CanBeHad}
+use Rattle.bring_up.specs.Configuration.{IsValidIn}
 use Rattle.bring_up.specs.ConfiguredAdapters.{AreWords, IsConfigured, WritesConfigure, all_writes, names_vlans, writes_before_rings}
 use Rattle.bring_up.specs.FilterTables.{address_writes, table_writes}
 use Rattle.bring_up.specs.RingRegisters.{receive_control, receive_writes, ring_setup_writes, transmit_writes}
@@ -58,7 +58,7 @@ tables-set config address groups vlans image link is groups_whole vlans_whole gr
     (groups-set groups linked groups_whole empty groups_are) tags
 
 pub before-rings : (config : Config) (address groups vlans : List ℕ) (size : ℕ) (settings : Settings)
-    → CanBeHad config size → IsAddress address → length groups ≡ 128 → length vlans ≡ 128 → AreWords groups → AreWords vlans
+    → IsValidIn config size → IsAddress address → length groups ≡ 128 → length vlans ≡ 128 → AreWords groups → AreWords vlans
     → settings_after_all (writes_before_rings config address groups vlans) settings
     ≡ settings_of (adapter_before_rings config address groups vlans settings.image settings.link)
 before-rings config address groups vlans size settings had is groups_whole vlans_whole groups_are vlans_are =
@@ -96,7 +96,7 @@ adapter_configured config address groups vlans image link slots =
       transmit_ring = ring_at (16 * config.rx) (16 * config.tx);
     }
 
-from-rings : (config : Config) (address groups vlans image : List ℕ) (link : Link) (size slots : ℕ) → CanBeHad config size
+from-rings : (config : Config) (address groups vlans image : List ℕ) (link : Link) (size slots : ℕ) → IsValidIn config size
     → slots < 65536
     → SetTo (writes_offering config slots) (adapter_before_rings config address groups vlans image link)
     (adapter_configured config address groups vlans image link slots)
@@ -128,7 +128,8 @@ from-rings config address groups vlans image link size slots had tail_fits =
     (set-join transmit_writes mask_writes both sends end (transmit-sets both) (mask-sets sends refl)))))
 
 pub all-set : (config : Config) (address groups vlans : List ℕ) (size slots : ℕ) (settings : Settings)
-    → CanBeHad config size → slots < 65536 → IsAddress address → length groups ≡ 128 → length vlans ≡ 128 → AreWords groups → AreWords vlans
+    → IsValidIn config size → slots < 65536 → IsAddress address → length groups ≡ 128 → length vlans ≡ 128 → AreWords groups
+    → AreWords vlans
     → settings_after_all (writes_before_rings config address groups vlans ++ writes_offering config slots) settings
     ≡ settings_of (adapter_configured config address groups vlans settings.image settings.link slots)
 all-set config address groups vlans size slots settings had fits is groups_whole vlans_whole groups_are vlans_are =

@@ -27,7 +27,7 @@ pub record HasRightNumbers (config : Config) : Type 0 where
   pub vlans : All (λ vlan. vlan < table_numbers) (vlans_of config.vlans)
 
 -- The configuration is valid in a memory of `size` bytes.
-pub record CanBeHad (config : Config) (size : ℕ) : Type 0 where
+pub record IsValidIn (config : Config) (size : ℕ) : Type 0 where
   -- the sizes of the rings and the number of receive buffers are valid
   pub counts : IsAllowed (configured_counts config)
   -- RXA, groups and VLANs are valid

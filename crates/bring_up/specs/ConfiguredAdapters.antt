@@ -16,7 +16,7 @@ use Rattle.bus.specs.DriverState.{DriverSetup}
 use Rattle.descriptors.specs.Ring.{count_of}
 use Rattle.bus.specs.Link.{LeavesPhy}
 use Rattle.bus.specs.Settings.{Settings, Write, settings_after_all}
-use Rattle.bring_up.specs.Configuration.{CanBeHad, vlans_of}
+use Rattle.bring_up.specs.Configuration.{IsValidIn, vlans_of}
 use Rattle.bring_up.specs.FilterTables.{address_writes, table_writes}
 use Rattle.bring_up.specs.RingRegisters.{receive_control, receive_writes, ring_setup_writes, transmit_control, transmit_writes}
 use Rattle.bring_up.specs.SettingSteps.{IsAside}
@@ -135,7 +135,7 @@ pub record IsConfigured (config : Config) (address : List ℕ) (settings : Setti
 abbrev pub WritesConfigure : Type 0
 WritesConfigure =
     (config : Config) (address groups vlans : List ℕ) (size : ℕ) (settings : Settings)
-    → CanBeHad config size → IsAddress address → AreWords groups → AreWords vlans
+    → IsValidIn config size → IsAddress address → AreWords groups → AreWords vlans
     → HasNumbers groups (numbers_of_groups config.groups.items) → HasNumbers vlans (vlans_of config.vlans)
     → IsConfigured config address (settings_after_all (all_writes config address groups vlans) settings)
     × ((settings_after_all (all_writes config address groups vlans) settings).image ≡ settings.image)

@@ -42,7 +42,7 @@ pub struct Config {
 }
 
 impl Config {
-    ghost use Rattle.bring_up.specs.Configuration.{CanBeHad, HasRightNumbers, configured_counts};
+    ghost use Rattle.bring_up.specs.Configuration.{IsValidIn, HasRightNumbers, configured_counts};
     ghost use Rattle.bring_up.specs.declared.init_error.InitError.TheVariants as InitError;
 
     /// Returns the places of rings and buffers in a memory of `size` bytes.
@@ -51,7 +51,7 @@ impl Config {
     ///
     /// E15 [`Config`](InitError::Config) exactly if the configuration isn't valid in such a memory.
     pub fn layout(&self, size: u64) -> Result<Layout, InitError>
-        ensures ok { IsOk result ↔ CanBeHad self.now size }
+        ensures ok { IsOk result ↔ IsValidIn self.now size }
         ensures counts { IfOk result (λ layout. layout ≡ configured_counts self.now) }
         ensures err { IfErr result (λ error. error ≡ InitError.Config) }
     {
@@ -67,7 +67,7 @@ impl Config {
         Ok(layout)
     }
 
-    /// Returns whether RXA, the groups and the VLANs are valid.
+    /// Returns whether RXA, the groups and the VLANs are valid, as the comments of these fields state.
     fn has_right_numbers(&self) -> bool
         ensures { IsTrue result ↔ HasRightNumbers self.now }
     {
@@ -80,7 +80,7 @@ impl Config {
     }
 }
 
-/// Returns whether this number of kilobytes is a valid value of PBA.RXA.
+/// Returns whether this number of kilobytes is a valid value of PBA.RXA: even, from 2 to 48.
 fn is_allocation(kilobytes: u8) -> bool
     ensures { IsTrue result ↔ IsAllocation kilobytes }
 {

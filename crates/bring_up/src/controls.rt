@@ -18,9 +18,11 @@ use bus::Bus;
 use registers::{Cause, Ctrl};
 
 /// Resets the device, disables all interrupt causes and clears the recorded causes ("14.3 General Initialization").
-/// After the call, the adapter is at rest (`IsAtRest`). If a driver was ready before, the buffers of its slots are free
-/// after the call. `pool` then contains all free buffers, in any order. Pieces of frames that others hold are still in
-/// their buffers.
+/// After the call, the adapter is at rest (`IsAtRest`): no slot is offered, no frame is in the adapter, and RCTL and
+/// MPC are 0.
+///
+/// `resets`: if a driver was ready before, the buffers of its slots are free after the call. `pool` then contains all
+/// free buffers, in any order. Pieces of frames that others hold are still in their buffers.
 pub fn reset_device<B: Bus>(bus: &mut B)
     ensures keeps { Keeps B.Bus bus.old bus.new }
     ensures sets { B.honest bus.old → Sets B.Bus reset_writes bus.old bus.new }
@@ -44,8 +46,9 @@ pub fn allocate_packet_buffer<B: Bus>(bus: &mut B, kilobytes: u8)
     bus.write(PBA, u32::from(kilobytes));
 }
 
-/// Enables the link, at the speed that the PHY detects (CTRL.SLU and CTRL.ASDE). If the link is up and no MDIC command
-/// is pending, both remain true.
+/// Enables the link, at the speed that the PHY detects, by a write of CTRL with SLU and ASDE. All other bits are
+/// written as 0, so no speed or duplex mode is forced. If the link is up and no MDIC command is pending, both remain
+/// true.
 pub fn set_link_up<B: Bus>(bus: &mut B)
     ensures keeps { Keeps B.Bus bus.old bus.new }
     ensures sets { B.honest bus.old → SetsOnly B.Bus enable_link_writes bus.old bus.new }

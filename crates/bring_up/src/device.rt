@@ -12,11 +12,13 @@ use bus::Bus;
 use registers::{Image, checksum_ok};
 
 /// Resets the device, reads its EEPROM, assigns `kilobytes` of the packet buffer to received frames, and enables the
-/// link. Then starts negotiation, and waits until the link is up and negotiated. Returns the image of the EEPROM. Over
-/// a lively bus that obeys the law, E11 and E13 don't occur, and E14 only if the link needs more than 2,000 ticks or is
-/// never up.
+/// link. Then starts negotiation, and waits until the link is up and negotiated. Returns the image of the EEPROM.
+/// `kilobytes` isn't checked. Over a lively bus that obeys the law, E11 and E13 don't occur, and E14 only if the link
+/// needs more than 2,000 ticks or is never up.
 ///
 /// # Errors
+///
+/// E10 and E15 are never returned (`errors`).
 ///
 /// - E11 [`EepromTimeout`](InitError::EepromTimeout): 1,000 reads of EERD for one word didn't show DONE.
 /// - E12 [`Checksum`](InitError::Checksum): the image's checksum is wrong.

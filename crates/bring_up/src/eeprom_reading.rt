@@ -42,8 +42,9 @@ pub fn read_image<B: Bus>(bus: &mut B) -> Result<Image, InitError>
     Ok(Image::from_words(words))
 }
 
-/// Reads the word of the EEPROM at this address. For an address above 63, the word is FFFFh (our choice). Returns E11
-/// if 1,000 reads of EERD didn't show DONE. Over a lively bus that obeys the law, no timeout occurs.
+/// Reads the word of the EEPROM at this address. Returns E11 if 1,000 reads of EERD didn't show DONE. Over a lively bus
+/// that obeys the law, no timeout occurs. The adapter returns FFFFh for an address above 63 (our choice), which
+/// [`read_image`] never reads.
 fn read_word<B: Bus>(bus: &mut B, address: u8) -> Result<u16, InitError>
     ensures keeps { Keeps B.Bus bus.old bus.new }
     ensures only { IsOkUnless result InitError.EepromTimeout }

@@ -137,6 +137,7 @@ impl Groups {
     /// E23 [`NotGroup`](GroupError::NotGroup) if this isn't the address of a group, else E26
     /// [`Joined`](GroupError::Joined) if the group is joined already, else E24 [`GroupsFull`](GroupError::GroupsFull)
     /// if 32 groups are joined. After an error, the list is unchanged, and there was no access.
+    /// There is no other error (`else_ok`).
     pub fn join<B: Bus>(&mut self, bus: &mut B, group: [u8; 6]) -> Result<(), GroupError>
         ensures keeps { Keeps B.Bus bus.old bus.new }
 
@@ -151,7 +152,7 @@ impl Groups {
         ensures room { OnOk result (length self.old < MOST_GROUPS) }
         ensures quiet { HasNumber self.old group → bus.new ≡ bus.old }
 
-        // Over a bus that obeys the law.
+        // Over a bus that obeys the law. The first `self.old` lists the groups that remain joined.
         ensures changes { ChangesGroups B.Bus result self.old group self.old self.new bus.old bus.new }
     {
         if !is_group(&group) {
@@ -163,6 +164,7 @@ impl Groups {
         if self.list.is_full() {
             return Err(GroupError::GroupsFull);
         }
+        // This must come before the push, because a list with this group has its number.
         let shares = self.has_number(&group);
         self.list.push(group);
         if !shares {
@@ -178,7 +180,7 @@ impl Groups {
     ///
     /// E23 [`NotGroup`](GroupError::NotGroup) if this isn't the address of a group, else E25
     /// [`NotJoined`](GroupError::NotJoined) if the group isn't joined. After an error, the list is unchanged, and there
-    /// was no access.
+    /// was no access. There is no other error (`else_ok`).
     pub fn leave<B: Bus>(&mut self, bus: &mut B, group: [u8; 6]) -> Result<(), GroupError>
         ensures keeps { Keeps B.Bus bus.old bus.new }
 
@@ -190,7 +192,7 @@ impl Groups {
         ensures list { OnOk result (Removes group self.old self.new) }
         ensures quiet { HasNumber self.new group → bus.new ≡ bus.old }
 
-        // Over a bus that obeys the law.
+        // Over a bus that obeys the law. The first `self.new` lists the groups that remain joined.
         ensures changes { ChangesGroups B.Bus result self.new group self.old self.new bus.old bus.new }
     {
         if !is_group(&group) {

@@ -2,7 +2,8 @@
 
 ghost use Rattle.bring_up.specs.Groups.{TablesAgree};
 
-/// If a group table has exactly the bits of the joined groups, these groups determine its words.
+/// The joined groups determine the words of the group table. Two adapters whose tables have exactly the bits of the
+/// same groups have the same table.
 pub fn groups_determine_table()
     ensures { TablesAgree }
 {}

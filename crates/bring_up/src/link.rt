@@ -42,7 +42,8 @@ const NEGOTIATED: u32 = 1 << 5;
 /// The link is up: bit 2 of the PHY's register 1.
 const LINK: u32 = 1 << 2;
 
-/// Enables and restarts the PHY's autonegotiation. Over a lively bus that obeys the law, no error occurs.
+/// Enables and restarts the PHY's autonegotiation, by one command to the PHY. Waits for the end of this command, but
+/// not for the link ([`await_link`]). Over a lively bus that obeys the law, no error occurs.
 ///
 /// # Errors
 ///
@@ -80,6 +81,7 @@ pub fn await_link<B: Bus>(bus: &mut B) -> Result<(), InitError>
 }
 
 /// Returns whether the PHY's status shows that autonegotiation is complete (bit 5) and that the link is up (bit 2).
+/// `status` is a value of MDIC: the PHY's status is in bits 15:0.
 fn shows_link(status: u32) -> bool
     ensures { IsTrue result ↔ (Meet status (alone status_complete) × Meet status (alone status_link)) }
 {

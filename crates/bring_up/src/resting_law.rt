@@ -6,15 +6,15 @@ ghost use Rattle.bring_up.specs.RestingRings.{DriversBeginAgain, DriversBeginAtR
 
 /// Let an adapter be at rest, its receive ring be set up with no slot offered, and its transmit ring have its reset
 /// values. Let the counts of the layout be valid, memory contain the whole layout, and each buffer be free exactly
-/// once. Then a driver that begins is ready, with its transmit side off. RCTL.EN is 0, and no frame is held or to be
-/// sent.
+/// once. Then a new driver, which has offered no slot, is ready with its transmit side off. RCTL.EN is 0, and no frame
+/// is held or to be sent.
 pub fn drivers_begin_at_rest()
     ensures { DriversBeginAtRest }
 {}
 
 /// Let the counts of a driver's layout be valid, its adapter be reset, and its receive ring be set up again with no
-/// slot offered. Then the driver is ready with its transmit side off, and others hold the same pieces of frames.
-/// RCTL.EN is 0, and no frame is held or to be sent.
+/// slot offered. Then the driver, without its slots from before the reset, is ready with its transmit side off. Others
+/// hold the same pieces of frames. RCTL.EN is 0, and no frame is held or to be sent.
 pub fn drivers_begin_again()
     ensures { DriversBeginAgain }
 {}

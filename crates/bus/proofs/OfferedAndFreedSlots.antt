@@ -73,7 +73,7 @@ status-byte bytes = refl
 -- frame can be transmitted if it has at least 14 bytes, and the bytes are in memory.
 record Says (memory : List ℕ) (slot address size : ℕ) : Type 0 where
   clear : is_done memory slot ≡ false
-  reports : (fetched true memory slot).report ≡ true
+  reports : (fetched true memory slot).rs ≡ true
   place_of : data_of memory slot ≡ area_at address size
   frame : frame_at true memory slot ≡ padded (bytes_at memory address size)
   transmittable : 14 ≤ size → LiesIn memory address size → CanTransmit memory slot

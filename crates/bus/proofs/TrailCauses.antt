@@ -152,10 +152,10 @@ first_is_recorded event later a b place causes leaves trail records set =
 chosen : (test : Bool) (cause place : ℕ) → HasBit cause place → test ≡ true → HasBit (cond test cause 0) place
 chosen test cause place set is = subst (λ (t : Bool). HasBit (cond t cause 0) place) (sym is) set
 
-putting-asks : (buffer : List Queued) (frame : List ℕ) → IsOldest buffer frame → IfFront buffer (λ queued. queued.report ≡ true)
+putting-asks : (buffer : List Queued) (frame : List ℕ) → IsOldest buffer frame → IfFront buffer (λ queued. queued.rs ≡ true)
     → HasBit (causes_of_putting buffer) 0
 putting-asks [] frame oldest asks = absurd oldest
-putting-asks (queued ∷ later) frame oldest asks = chosen queued.report 0x1 0 refl asks
+putting-asks (queued ∷ later) frame oldest asks = chosen queued.rs 0x1 0 refl asks
 
 taking-empties : (ring : RingRegisters) → (moved_on ring).head ≡ ring.tail → HasBit (causes_of_taking ring) 1
 taking-empties ring last = chosen ((moved_on ring).head == ring.tail) 0x2 1 refl (eq-eqb _ _ last)

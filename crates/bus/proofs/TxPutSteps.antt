@@ -183,14 +183,14 @@ between_put o p queued later a0 sound =
       };
     }
 
-report-written : (memory : List ℕ) (queued : Queued) → queued.report ≡ true → LiesIn memory (queued.descriptor + 12) 1
+report-written : (memory : List ℕ) (queued : Queued) → queued.rs ≡ true → LiesIn memory (queued.descriptor + 12) 1
     → reported_in memory queued ≡ with_bytes memory (queued.descriptor + 12) (1 ∷ [])
 report-written memory queued asks lies =
     let fits : nat_lt (queued.descriptor + 12) (length memory) ≡ true = grind (arith, nat_tests) in
     rw (asks, fits) refl
 
 length-reported : (memory : List ℕ) (queued : Queued) → length (reported_in memory queued) ≡ length memory
-length-reported memory queued = by-tests queued.report (nat_lt (queued.descriptor + 12) (length memory)) refl
+length-reported memory queued = by-tests queued.rs (nat_lt (queued.descriptor + 12) (length memory)) refl
   where
     by-tests : (asks fits : Bool) → nat_lt (queued.descriptor + 12) (length memory) ≡ fits
         → length (cond (asks && fits) (with_bytes memory (queued.descriptor + 12) (1 ∷ [])) memory) ≡ length memory

@@ -69,10 +69,10 @@ fetched-same memory memory' area descriptor keeps same apart =
     let desc : TxDesc = transmit.transmit_descriptor_at memory descriptor in
     let desc_same : transmit.transmit_descriptor_at memory' descriptor ≡ desc = ap tx_desc_of same in
     ap (λ (d : TxDesc). let queued : Queued = record
-    { frame = as_sent true (bytes_at memory' d.address d.length); descriptor = descriptor; report = is_set (command_bits d.command) 3 }
+    { frame = as_sent true (bytes_at memory' d.address d.length); descriptor = descriptor; rs = is_set (command_bits d.command) 3 }
     in queued) desc_same
     ∙ ap (λ (bytes : List ℕ). let queued : Queued = record
-    { frame = as_sent true bytes; descriptor = descriptor; report = is_set (command_bits desc.command) 3 } in queued)
+    { frame = as_sent true bytes; descriptor = descriptor; rs = is_set (command_bits desc.command) 3 } in queued)
     (keeps.others (data_of memory descriptor) apart)
 
 -- Lists of descriptors.

@@ -71,7 +71,7 @@ MasksStay =
 pub record IsRecorded (later : List Event) (a b : World) : Type 0 where
   -- TXDW, bit 0: a frame was put whose descriptor asks for a report.
   pub put : (wire_free : Bool) (frame : List ℕ) → Trail (Steps TxPut wire_free (Put frame) ∷ later) a b
-      → IfFront a.adapter.transmitter.buffer (λ queued. queued.report ≡ true) → HasBit b.adapter.causes.recorded txdw
+      → IfFront a.adapter.transmitter.buffer (λ queued. queued.rs ≡ true) → HasBit b.adapter.causes.recorded txdw
   -- TXQE, bit 1: the taken descriptor was the last one before TDT.
   pub taken : (wire_free : Bool) → Trail (Steps TxTake wire_free Took ∷ later) a b
       → (moved_on a.adapter.transmit_ring).head ≡ a.adapter.transmit_ring.tail → HasBit b.adapter.causes.recorded txqe

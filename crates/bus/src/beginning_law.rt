@@ -11,16 +11,17 @@ pub fn drivers_begin()
     ensures { DriversBegin }
 {}
 
-/// A driver that is ready remains ready after each register write of its initialization.
+/// A driver that is ready remains ready after these register writes of its initialization:
 /// - `receiver`: a write of RCTL while no receive slot is finished or in progress, and the transmit side is off. The
 ///   value has BSEX 0, and BSIZE for the layout's receive buffers.
 /// - `transmit_ring`: a write of TDBAL, TDBAH, TDLEN, TDH or TDT while the transmit side is off. After the write, TDH
-///   must equal TDT, and the ring must be inside its place in the layout. The side remains off.
+///   must equal TDT, and the ring must be inside its place in the layout. The transmit side remains off.
 /// - `transmitter`: a write of TCTL with PSP, after the registers of the transmit ring were set. After the write the
 ///   transmit side is set up.
 /// - `causes`: a write of IMS, which changes only the mask.
-/// - `work`: no work is forgotten after a write of IMS with RXT0 if, before the write, no frame ended in finished
-///   slots, or RXT0 was recorded.
+///
+/// `work`: no work is forgotten after a write of IMS with RXT0, if no frame ended in finished slots before, or RXT0 was
+/// recorded.
 #[tactic(auto, using(crate::proofs::Laws::registers_are_set))]
 pub fn registers_are_set()
     ensures receiver { ReceiverIsEnabled }
@@ -30,7 +31,8 @@ pub fn registers_are_set()
     ensures work { EnabledForgetsNoWork }
 {}
 
-/// A driver that is ready remains ready after each store of its initialization, other than the stores that stage slots.
+/// A driver that is ready remains ready after these stores of its initialization. The stores that stage slots are in
+/// [`receive_slots_go_round`](crate::receive_slots_go_round).
 /// - `last`: a store of the descriptor of the receive slot after the outstanding and staged slots.
 /// - `spare`: a store of the descriptor of any receive slot that is neither outstanding nor staged.
 /// - `transmit_ring`: a store to the place of the transmit ring, while the transmit side is off.

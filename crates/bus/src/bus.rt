@@ -12,11 +12,14 @@ ghost use Rattle.dma_memory.specs.HostMemory.{bytes_at};
 /// The interface through which a driver accesses its adapter and its memory. Each call except [`size`](Bus::size) is
 /// one access.
 ///
-/// Any type may implement `Bus`. A bus that isn't `honest` ensures only that its size and the values lent to it don't
-/// change, and that it remains lively if it is lively. An honest bus has one adapter and one memory. Before an access,
-/// only steps of the adapter and deliveries may happen. Then the access itself has exactly the effect that adapter and
-/// memory define. In a clause `acts`, `before` is the world after these steps and deliveries, not the world of
-/// `self.old`. `after` is the world of `self.new`.
+/// Any type may implement `Bus`. By the clauses `keeps`, an access changes neither the size of memory nor the values
+/// lent to the bus. An honest bus remains honest, and a lively bus remains lively. A bus that isn't `honest` may return
+/// any values from reads and loads.
+///
+/// By the clauses `acts`, an honest bus has one adapter and one memory. Before an access, only steps of the adapter and
+/// deliveries may happen. Then the access itself has exactly the effect that adapter and memory define. In a clause
+/// `acts`, `before` is the world after these steps and deliveries, not the world of `self.old`. `after` is the world of
+/// `self.new`.
 pub trait Bus {
     /// The number of bytes of memory.
     ghost extent: { Self → ℕ };

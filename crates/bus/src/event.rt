@@ -53,8 +53,10 @@ impl StoredBytes {
 impl PartialEq for StoredBytes {
     ghost eq = { pointwise nat_eq };
 
+    // The prover finds the proof that this relation is symmetric and transitive.
     ghost laws = { Prim.search (comparing, rules) };
 
+    /// Returns whether both values contain the same bytes.
     fn eq(&self, other: &StoredBytes) -> bool {
         self.bytes.as_slice() == other.bytes.as_slice()
     }

@@ -21,26 +21,27 @@ ghost use Rattle.bus.specs.StepsAndArrivals.{ArrivalsHappen, StepsHappen};
 ghost use Rattle.bus.specs.FreedSlots.{WrittenSlotsCanBeFreed};
 ghost use Rattle.bus.specs.Trails.{TrailsHappen};
 
-/// The law of what may happen in consecutive intervals between two accesses.
-/// - `joins`: what happens in two consecutive intervals happens in the joined interval. Frames and accesses follow one
-///   another, and the numbers of misses and ticks are added.
+/// Laws of `Happens`, what adapter steps and deliveries may do in an interval between two accesses.
+/// - `joins`: two consecutive intervals form one. In its `Past`, the lists of both are appended, and the numbers of
+///   missed frames and of ticks are added.
 /// - `nothing`: an interval may be empty.
 /// - `sound`: if the conditions of the law hold before an interval, they hold after it, for the same oldest slots.
-pub fn between_composes()
+pub fn intervals_compose()
     ensures joins { HappeningsJoin }
     ensures nothing { NothingHappens }
     ensures sound { SoundStays }
 {}
 
-/// Any list of adapter steps and deliveries may happen between two accesses, if each has an outcome that the adapter's
-/// contract allows.
+/// Any list of adapter steps and deliveries may happen between two accesses (`Happens`). Each step must have an
+/// outcome, and each delivery a fate, that the adapter's contract allows.
 #[tactic(auto, using(crate::proofs::Trails::trails_happen))]
 pub fn any_steps_may_happen()
     ensures { TrailsHappen }
 {}
 
-/// Each step of an adapter, and each delivery of a frame to it, may happen between two accesses. This is true in every
-/// state of the adapter and its memory, whichever slots a driver counts as its oldest.
+/// Each step of an adapter, and each delivery of a frame to it, may happen between two accesses (`Happens`). The step
+/// has an outcome, or the delivery a fate, that the adapter's contract allows. This is true in every state of the
+/// adapter and its memory, whichever slots a driver counts as its oldest.
 #[tactic(auto, using(crate::proofs::StepInstances::arrivals_happen, crate::proofs::StepInstances::steps_happen))]
 pub fn steps_are_instances()
     ensures steps { StepsHappen }
@@ -75,9 +76,12 @@ pub fn drivers_stores_leave_frames()
     ensures foreign { DriversStoresLeaveForeign }
 {}
 
-/// A driver may write each of its slots of either ring. The slot is inside memory, and the adapter may not write it.
-/// [`drivers_stores_leave_frames`] applies to a store to the slot. The driver's slots are those from the tail up to,
-/// but not including, the oldest one.
+/// A driver may write the descriptor of each slot that isn't outstanding: such a slot is the driver's.
+/// - `received`, `sent`: if the conditions of the law hold, the driver's slots of either ring are inside memory, and
+///   the adapter may not write them. [`drivers_stores_leave_frames`] applies to a store to such a slot.
+/// - `from_tail`: the slots from the tail up to, but not including, the oldest one are the driver's. If the tail is the
+///   oldest slot, all slots are the driver's.
+/// - `tail`: the slot at the tail is the driver's.
 pub fn drivers_slots_can_be_written()
     ensures received { DriversReceiveSlotsCanBeWritten }
     ensures sent { DriversTransmitSlotsCanBeWritten }
@@ -93,26 +97,29 @@ pub fn known_rings_stay()
     ensures sent { KnownRingStays transmit_ring }
 {}
 
-/// A write of RDT, or of TDT, of an index below 65,536 changes only that tail.
+/// A write of an index below 65,536 to RDT or TDT changes only this register.
 pub fn tails_can_be_moved()
     ensures receive { ReceiveTailMoves }
     ensures transmit { TransmitTailMoves }
 {}
 
-/// A driver may offer its next receive slot by advancing RDT by one. The slot after it must not be the driver's oldest
-/// slot, and DD must be clear in the slot's descriptor. If RCTL.EN is set, the slot's buffer must be inside memory,
-/// apart from all areas that the conditions of the law name.
+/// A driver may offer its next receive slot, the one at RDT, by advancing RDT by one. RDH, RDT and the driver's oldest
+/// slot must be slots of the ring, and the slot after RDT must not be the oldest one. DD must be clear in the
+/// descriptor at RDT. If RCTL.EN is set, the slot's buffer must be inside memory, apart from all areas that the
+/// conditions of the law name.
 ///
-/// After the offer, the conditions of the law hold again, and the frames held and to be sent are the same. Engines that
-/// could run still can run. An area that the adapter may not write remains such an area, if it is apart from bytes 8 to
-/// 15 of the descriptor. If RCTL.EN is set, the area must also be apart from the buffer.
+/// Before the offer, the conditions of the law must hold. After it, they hold again, the frames held and to be sent are
+/// the same, and the slot is the last outstanding one. Engines that could run still can run. An area that the adapter
+/// may not write remains such an area, if it is apart from bytes 8 to 15 of the descriptor. If RCTL.EN is set, the area
+/// must also be apart from the buffer.
 pub fn slots_can_be_offered()
     ensures { SlotsCanBeOffered }
 {}
 
-/// A driver may offer its next transmit slot by advancing TDT by one. The slot after it must not be the driver's oldest
-/// slot, and TCTL.PSP must be set. The slot's descriptor must ask for a report, and its DD must be clear. The slot's
-/// data must be inside memory, apart from all areas that the conditions of the law name.
+/// A driver may offer its next transmit slot, the one at TDT, by advancing TDT by one. TDH, TDT and the driver's oldest
+/// slot must be slots of the ring, and the slot after TDT must not be the oldest one. TCTL.PSP must be set. The
+/// descriptor at TDT must ask for a report, and its DD must be clear. The slot's data must be inside memory, apart from
+/// all areas that the conditions of the law name.
 ///
 /// After the offer, the conditions of the law hold again. The slot's frame, padded, is the last one to be sent. If the
 /// descriptor can be transmitted, engines that could run still can run. An area that the adapter may not write remains
@@ -160,10 +167,13 @@ pub fn idle_rings_are_sound()
     ensures after_reset { IdleAfterReset }
 {}
 
-/// Idle rings remain idle until a register of a ring is written. They remain idle whatever happens between two
-/// accesses, whatever is read or stored, and after a write of any other register, even after a reset. They are idle
-/// after a write of a ring's register if head equals tail in each ring, and both rings are in memory, apart from each
-/// other. So the conditions of the law hold in each state of initialization up to the first offered slot.
+/// An idle adapter ([`idle_rings_are_sound`]) remains idle until a register of a ring is written. So the conditions of
+/// the law hold in each state of initialization up to the first offered slot. The adapter remains idle:
+/// - `happenings`: whatever happens between two accesses.
+/// - `reads`, `stores`: after a read of any register, and after a store inside memory.
+/// - `other_writes`: after a write of any register that isn't a ring's, even after a reset.
+/// - `writes`: after a write of any register, if head then equals tail in each ring, and both rings are in memory,
+///   apart from each other.
 #[tactic(auto, using(crate::proofs::Laws::idle_rings_stay_idle))]
 pub fn idle_rings_stay_idle()
     ensures happenings { HappeningsKeepIdle }
@@ -173,20 +183,24 @@ pub fn idle_rings_stay_idle()
     ensures writes { WritesKeepIdle }
 {}
 
-/// A driver may offer several receive slots by one write of RDT, if each can be offered after the slot before it.
+/// A driver may offer several receive slots by one write of RDT, if each can be offered after the slot before it
+/// ([`slots_can_be_offered`]). After the write, the conditions of the law hold, and these slots are the last
+/// outstanding ones. The frames held and to be sent are the same. Engines that could run still can run.
 pub fn many_slots_can_be_offered()
     ensures { ManySlotsCanBeOffered }
 {}
 
-/// Other accesses of a driver to registers. After them, the conditions of the law hold. Except for `transmit_ring`,
-/// slots and frames are the same. Engines that could run still can run. For a write of RCTL, BSEX must then be 0.
+/// Accesses of a driver to registers, except offers of slots by RDT and TDT. If the conditions of the law hold before
+/// an access, they hold after it. Engines that could run still can run, except after a write of RCTL with BSEX. Slots
+/// and frames are the same, except for `transmit_ring`.
 /// - `receive_control`: a write of RCTL, if all areas that the conditions then name are inside memory, apart from one
 ///   another.
 /// - `transmit_control`: a write of TCTL, if PSP is set in the written value or TDH equals TDT.
 /// - `transmit_ring`: the setup of a transmit ring while no frame is in the transmit packet buffer. TDH must equal TDT,
 ///   and the ring must be inside memory, apart from all other areas. The conditions then hold with TDT as the oldest
 ///   slot. No transmit slot is outstanding, no frame is to be sent, and received frames are the same.
-/// - `others`, `reads`: a write of any other register, without a reset; a read of any register.
+/// - `others`: a write of a register other than RCTL, TCTL and the registers of both rings, if it isn't a reset.
+/// - `reads`: a read of any register.
 #[tactic(auto, using(crate::proofs::Laws::registers_can_be_set))]
 pub fn registers_can_be_set()
     ensures receive_control { ReceiverCanBeSet }
@@ -197,10 +211,11 @@ pub fn registers_can_be_set()
 {}
 
 /// What doesn't change while a driver initializes, whatever happens between two of its accesses:
-/// - `offers`: the offered receive slots and the addresses of their buffers. RCTL.EN must be 0, and no frame may be
-///   held. Frames must be cut into buffers of one size, at least one byte. The driver's oldest slot must be a slot of
-///   the ring.
-/// - `transmit_ring`: a transmit ring without outstanding slots.
+/// - `offers`: the offered receive slots and the addresses of their buffers. No slot is finished or in progress.
+///   RCTL.EN must be 0, no frame may be held, and the driver's oldest slot must be a slot of the ring. Frames must be
+///   cut into buffers of one size, at least one byte, so that no slot contains a part of a frame.
+/// - `transmit_ring`: if TDH, TDT and the driver's oldest slot are equal, TDH and TDT remain equal, and no frame is in
+///   the transmit packet buffer.
 pub fn rings_wait()
     ensures offers { OffersWait }
     ensures transmit_ring { TransmitStaysIdle }

@@ -28,12 +28,11 @@ pub use bus::{Bus, HonestBus};
 pub use driver_law::{drivers_go_on, intervals_join, receive_slots_go_round};
 pub use event::{Access, Event, StoredBytes};
 pub use law::{
-    any_steps_may_happen, areas_stay_apart, between_composes, drivers_side_stays,
-    drivers_slots_can_be_written, drivers_stores_leave_frames, faults_never_come,
-    frames_can_be_offered, idle_rings_are_sound, idle_rings_stay_idle, known_rings_stay,
-    large_buffers_take_frames, many_slots_can_be_offered, registers_can_be_set, rings_wait,
-    runs_can_be_taken, slots_can_be_offered, steps_are_instances, tails_can_be_moved,
-    written_slots_can_be_freed,
+    any_steps_may_happen, areas_stay_apart, drivers_side_stays, drivers_slots_can_be_written,
+    drivers_stores_leave_frames, faults_never_come, frames_can_be_offered, idle_rings_are_sound,
+    idle_rings_stay_idle, intervals_compose, known_rings_stay, large_buffers_take_frames,
+    many_slots_can_be_offered, registers_can_be_set, rings_wait, runs_can_be_taken,
+    slots_can_be_offered, steps_are_instances, tails_can_be_moved, written_slots_can_be_freed,
 };
 pub use link_law::links_stay_up;
 pub use lively_bus::LivelyBus;

@@ -120,7 +120,7 @@ impl Machine {
         self.adapter.write(offset, value);
     }
 
-    /// Fills `into` with the bytes from an address on, which must be in memory.
+    /// Fills `into` with the bytes of memory from an address on. All these bytes must be in memory.
     pub fn load(&self, address: u64, into: &mut [u8])
         requires lies { LiesIn self.now.world.memory address (length into.old) }
         ensures loaded { into.new ≡ bytes_at self.now.world.memory address (length into.old) }
@@ -130,7 +130,7 @@ impl Machine {
         let _ = self.memory.load(address, into);
     }
 
-    /// Stores bytes from an address on, which must be in memory.
+    /// Stores bytes to memory from an address on. All these bytes must be in memory.
     pub fn store(&mut self, address: u64, bytes: &[u8])
         requires lies { LiesIn self.old.world.memory address (length bytes.now) }
         ensures state { self.new ≡ after_event (Accesses (Stores address bytes.now)) self.old }
@@ -162,14 +162,15 @@ impl Machine {
         self.adapter.has_work(kind)
     }
 
-    /// Returns whether a read of the EEPROM is pending: a step of the EEPROM then ends this read.
+    /// Returns whether a read of the EEPROM is pending, which the next step of the EEPROM would end.
     pub fn eeprom_has_work(&self) -> bool
         ensures { result ≡ is_pending self.now.world.adapter.eerd }
     {
         self.adapter.eeprom_has_work()
     }
 
-    /// Returns whether a step of the PHY changes the PHY or MDIC.
+    /// Returns whether the next step of the PHY has something to do: a link countdown is running, or a command of MDIC
+    /// is pending.
     pub fn phy_has_work(&self) -> bool
         ensures { result ≡ has_work self.now.world.adapter.mdic self.now.world.adapter.phy }
     {
@@ -217,9 +218,10 @@ impl Machine {
         &self.adapter
     }
 
-    /// Appends the frames that are to be sent to `sending`. Appends the frames that are held, from the receive slot
-    /// `oldest` on, to `holding`. Both lists must have room for these frames. The rings and the bytes of these frames
-    /// must be inside memory, and no frame may exceed 1,518 bytes. See [`Adapter::pending`].
+    /// Lists the frames that are dropped if the driver resets the adapter now. Appends the frames to be sent to
+    /// `sending`, and the frames held, from the receive slot `oldest` on, to `holding`. Both lists must have room for
+    /// these frames. The rings and the bytes of these frames must be inside memory, and no frame may exceed 1,518
+    /// bytes. See [`Adapter::pending`].
     pub fn pending(&self, oldest: u16, sending: &mut Vec<Frame>, holding: &mut Vec<Frame>)
         requires sending { CanReadSending self.now.world }
         requires holding { CanReadHeld oldest self.now.world }
@@ -229,6 +231,8 @@ impl Machine {
             ≤ vec_capacity holding.old }
         ensures sending { sending.new.items ≡ sending.old.items ++ frames_to_send self.now.world }
         ensures holding { holding.new.items ≡ holding.old.items ++ frames_held oldest self.now.world }
+        // `holding` keeps its room, so a caller may append later frames without an allocation.
+        ensures holding_capacity { vec_capacity holding.old ≤ vec_capacity holding.new }
     {
         self.adapter.pending(&self.memory, oldest, sending, holding);
     }

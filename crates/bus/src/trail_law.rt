@@ -29,9 +29,10 @@ pub fn causes_are_those_of_steps()
     ensures stay { RecordedCausesStay }
 {}
 
-/// A load, a store, and a read of any register except ICR and the counters don't change the adapter.
-/// - `worlds`: a load, and a read of such a register, don't change memory either.
-/// - `interrupts`: these accesses aren't resets, and change neither the recorded causes nor the mask.
+/// An access is quiet if it is a load, a store, or a read of any register except ICR and the counters.
+/// - `adapters`: a quiet access doesn't change the adapter.
+/// - `worlds`: a quiet access that isn't a store doesn't change memory either.
+/// - `interrupts`: a quiet access isn't a reset, and changes neither the recorded causes nor the mask.
 /// - `rings`: a write of a ring's register, such as RDT or TDT, isn't a reset, and changes neither the recorded causes
 ///   nor the mask.
 #[tactic(auto, using(crate::proofs::Laws::quiet_accesses_leave_adapters))]

@@ -36,7 +36,7 @@ fn is_required(form: Form<'_>) -> bool
     matches!(form, Form::Required(_) | Form::File)
 }
 
-/// Returns an argument in clap's form. The argument isn't global.
+/// Returns an argument in clap's form. The argument isn't global: only its own command has it.
 fn clap_argument<'a>(alloc: Global, argument: &Argument<'a>) -> Arg<'a>
     ensures rule { rule_of result ≡ rule_for argument.now }
     ensures local { result.global ≡ false }
@@ -119,7 +119,8 @@ pub(crate) const SUBCOMMANDS: [Subcommand<'static>; 5] = [
     Subcommand("drive", DRIVE_ABOUT, DRIVE_NOTE, &DRIVE_ARGUMENTS),
 ];
 
-/// Returns the program without its subcommands. No argument is global.
+/// Returns the program without its subcommands. The program refuses words without a subcommand, and prints help if
+/// only its name is given. No argument is global.
 fn bare_program<'a>(alloc: Global) -> Command<'a>
     ensures app { app_of result ≡ bare_app }
     ensures no_globals { (fields_of result).has_globals ≡ false }

@@ -77,6 +77,7 @@ impl fmt::Display for InvalidValue<'_> {
         let name = name_of(self.option);
         let form = form_of(self.option);
         let text = self.text;
+        // `form` contains the quotation mark that closes the option and its value.
         writeln!(f, "error: invalid value '{text}' for '--{name} {form}")?;
         f.write_str("\nFor more information, try '--help'.\n")
     }

@@ -33,6 +33,7 @@ fn job_of<'a>(name: &str, matches: &ArgMatches<'a>) -> Result<Job<'a>, ValueOpti
         })),
         "serve" => serve_job(matches),
         "drive" => drive_job(matches),
+        // The precondition excludes other names.
         _ => unreachable!(),
     }
 }

@@ -4,7 +4,7 @@ ghost use Rattle.command_line.specs.Spelling.{SpellsDecimal, SpellsGroup, Spells
 ghost use Rattle.command_line.specs.declared.job.ServeLink.{ServeLink};
 
 use crate::{ServeLink, ValueOption};
-use text::digits_of;
+use text::number_in_radix;
 
 /// The base of decimal numbers.
 const DECIMAL: u32 = 10;
@@ -40,7 +40,7 @@ fn decimal_of(text: &str, most: u64) -> Option<u64>
     ensures spelled { IfSome result (λ n. SpellsDecimal text.now n × (n ≤ most)) }
     ensures refused { IfNone result ((n : ℕ) → SpellsDecimal text.now n → ¬ (n ≤ most)) }
 {
-    let number = digits_of(text, DECIMAL)?;
+    let number = number_in_radix(text, DECIMAL)?;
     if number > most {
         return None;
     }
@@ -53,7 +53,7 @@ fn kilobytes_of(text: &str) -> Option<u64>
     ensures spelled { IfSome result (SpellsKilobytes text.now) }
     ensures refused { IfNone result ((kilobytes : ℕ) → ¬ SpellsKilobytes text.now kilobytes) }
 {
-    let kilobytes = digits_of(text, DECIMAL)?;
+    let kilobytes = number_in_radix(text, DECIMAL)?;
     if kilobytes < LEAST_KILOBYTES || kilobytes > MOST_KILOBYTES || kilobytes % 2 != 0 {
         return None;
     }
@@ -72,7 +72,9 @@ pub(crate) fn number_of(text: &str, option: ValueOption) -> Option<u64>
         ValueOption::Memory | ValueOption::Registers => text::number_of(text),
         ValueOption::Vlan => decimal_of(text, HIGHEST_VLAN),
         ValueOption::Rxa => kilobytes_of(text),
-        ValueOption::Seed | ValueOption::Expect | ValueOption::Idle => digits_of(text, DECIMAL),
+        ValueOption::Seed | ValueOption::Expect | ValueOption::Idle => number_in_radix(
+            text, DECIMAL,
+        ),
         ValueOption::Missed => decimal_of(text, u32::MAX as u64),
         ValueOption::Rx | ValueOption::Tx | ValueOption::Buffers => decimal_of(
             text,
@@ -95,5 +97,6 @@ pub(crate) fn link_of(text: &str) -> Option<ServeLink>
     if ticks == 0 {
         return None;
     }
+    // The number is at most 65,535, so the cast doesn't change it.
     Some(ServeLink::After(ticks as u16))
 }

@@ -10,7 +10,7 @@ use crate::{InvalidValue, ValueOption};
 use clap::ArgMatches;
 use text::address_of;
 
-/// Returns the name of an option.
+/// Returns the name of an option, without the hyphens.
 pub(crate) fn name_of(option: ValueOption) -> &'static str
     ensures { result.now ≡ name_of option }
 {
@@ -33,21 +33,21 @@ pub(crate) fn name_of(option: ValueOption) -> &'static str
     }
 }
 
-/// Returns clap's text for an option, a flag or a path, if there is a text.
+/// Returns clap's text for the option, the flag or the path with this name, if there is a text.
 pub(crate) fn text<'a>(matches: &ArgMatches<'a>, name: &str) -> Option<&'a str>
     ensures { IsTextOf (text_in matches.now name.now) result }
 {
     matches.get_str(name)
 }
 
-/// Returns whether a flag is given: then clap's text for the flag is `true`.
+/// Returns whether the flag with this name is given: then clap's text for the flag is `true`.
 pub(crate) fn flag(matches: &ArgMatches<'_>, name: &str) -> bool
     ensures { IsFlagOf (text_in matches.now name.now) result }
 {
     text(matches, name) == Some("true")
 }
 
-/// Returns the path of a file or a folder, which must be given.
+/// Returns the path of a file or a folder, which is the text of the argument with this name. The path must be given.
 pub(crate) fn path<'a>(matches: &ArgMatches<'a>, name: &str) -> &'a str
     requires { IsSome (text_in matches.now name.now) }
     ensures { text_in matches.now name.now ≡ Some result.now }
@@ -67,11 +67,12 @@ pub(crate) fn invalid<'a>(matches: &ArgMatches<'a>, option: ValueOption) -> Inva
 }
 
 /// Returns the address in the text of an option, or `None` if the option isn't given. Fails with the option if its text
-/// doesn't have the option's form. The option's values must be addresses.
+/// doesn't have the option's form. The option must be `--address` or `--group`, whose values are addresses.
 pub(crate) fn address(
     matches: &ArgMatches<'_>,
     option: ValueOption,
 ) -> Result<Option<[u8; 6]>, ValueOption>
+    // Each valid text of the option spells an address.
     requires { (rows : List Row) (text : Text) → IsSpelled rows option text
         → (address : List ℕ) × SpellsAddressOf option text address }
     ensures value { IfOk result (IsValueOf (SpellsAddressOf option) (text_in matches.now (name_of option))) }
@@ -91,11 +92,13 @@ pub(crate) fn address(
 }
 
 /// Returns the number in the text of an option, or `None` if the option isn't given. Fails with the option if its text
-/// doesn't have the option's form. The option's values must be numbers.
+/// doesn't have the option's form. The option's values must be numbers. So the option isn't `--address`, `--group`,
+/// `--image` or `--link`.
 pub(crate) fn number(
     matches: &ArgMatches<'_>,
     option: ValueOption,
 ) -> Result<Option<u64>, ValueOption>
+    // Each valid text of the option spells a number.
     requires { (rows : List Row) (text : Text) → IsSpelled rows option text → (n : ℕ) × SpellsNumber option text n }
     ensures value { IfOk result (IsValueOf (SpellsNumber option) (text_in matches.now (name_of option))) }
     ensures refused { IfErr result (IsMisspelledAs option (rows_of (found_of matches.now))) }
@@ -116,6 +119,7 @@ pub(crate) fn number_or(
     option: ValueOption,
     default: u64,
 ) -> Result<u64, ValueOption>
+    // Each valid text of the option spells a number.
     requires { (rows : List Row) (text : Text) → IsSpelled rows option text → (n : ℕ) × SpellsNumber option text n }
     ensures value { IfOk result (IsValueOr (SpellsNumber option) default (text_in matches.now (name_of option))) }
     ensures refused { IfErr result (IsMisspelledAs option (rows_of (found_of matches.now))) }

@@ -14,7 +14,7 @@ pub fn copy_of<T: Copy>(buffer: &HeapCircularBuffer<T>) -> Result<HeapCircularBu
     ensures { IfOk result (λ copy. copy ≡ buffer.now) }
 {
     let mut copy = HeapCircularBuffer::with_capacity(*buffer.allocator(), buffer.capacity())?;
-    // If the items wrap in memory, the newer items are in a second slice.
+    // If the items wrap in memory, the newer items are in a second slice. Each call appends the items of one slice.
     let (front, wrapped) = buffer.as_slices();
     copy.fill_from_slice(front);
     copy.fill_from_slice(wrapped);

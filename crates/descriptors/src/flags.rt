@@ -28,14 +28,17 @@ impl Flags for RxStatus {
 
     ghost set_of = { λ status. status.0 };
 
+    /// Returns the bits that have names here, in the order of `bitflag_items!`.
     fn flags<'a>() -> &'a [Flag<RxStatus>] {
         RxStatus::FLAGS
     }
 
+    /// Returns the byte as a number.
     fn bits(&self) -> u8 {
         self.0
     }
 
+    /// Returns the byte with these bits, also with bits that have no name here.
     fn from_bits_retain(bits: u8) -> RxStatus {
         RxStatus(bits)
     }
@@ -68,14 +71,17 @@ impl Flags for TxCommand {
 
     ghost set_of = { λ command. command.0 };
 
+    /// Returns the bits that have names here, in the order of `bitflag_items!`.
     fn flags<'a>() -> &'a [Flag<TxCommand>] {
         TxCommand::FLAGS
     }
 
+    /// Returns the byte as a number.
     fn bits(&self) -> u8 {
         self.0
     }
 
+    /// Returns the byte with these bits, also with bits that have no name here.
     fn from_bits_retain(bits: u8) -> TxCommand {
         TxCommand(bits)
     }
@@ -103,14 +109,17 @@ impl Flags for TxStatus {
 
     ghost set_of = { λ status. status.0 };
 
+    /// Returns the bits that have names here, in the order of `bitflag_items!`.
     fn flags<'a>() -> &'a [Flag<TxStatus>] {
         TxStatus::FLAGS
     }
 
+    /// Returns the byte as a number.
     fn bits(&self) -> u8 {
         self.0
     }
 
+    /// Returns the byte with these bits, also with bits that have no name here.
     fn from_bits_retain(bits: u8) -> TxStatus {
         TxStatus(bits)
     }

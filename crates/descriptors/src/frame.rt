@@ -60,7 +60,7 @@ impl Frame {
         }
     }
 
-    /// Returns the frame with these bytes. There must be at most 1,518 bytes.
+    /// Returns the frame with these bytes. There must be at most 1,518 bytes, the room of a frame.
     pub fn from_slice(bytes: &[u8]) -> Frame
         requires { length bytes.now ≤ 1518 }
         ensures { result ≡ bytes.now }
@@ -108,21 +108,22 @@ impl Frame {
     }
 }
 
-/// A clone has the same bytes. Cloning allocates no memory, so it never fails.
+/// Cloning allocates no memory, so it never fails.
 impl Clone for Frame {
     ghost is_clone = { λ frame copy. copy ≡ frame };
 
     ghost is_infallible = { λ _. ⊤ };
 
+    /// Returns a frame with the same bytes. The result is never an error.
     fn clone(&self) -> Result<Frame, AllocError> {
         Ok(Frame::from_slice(self.as_slice()))
     }
 }
 
-/// The default is an empty frame.
 impl Default for Frame {
     ghost is_default = { λ frame. frame ≡ [] };
 
+    /// Returns an empty frame.
     fn default() -> Frame {
         Frame::new()
     }

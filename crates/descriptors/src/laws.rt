@@ -3,8 +3,8 @@ ghost use Rattle.descriptors.specs.TxDesc.{TxDescriptorsComeBack, TxBytesComeBac
 ghost use Rattle.descriptors.specs.Ring.{OfferedBeginAtHead, NoneIsOffered, OfferedAreDistance, OfferedGrowAtTail};
 ghost use Rattle.descriptors.specs.Frames.{SendablePaddedIsLegal, PaddedBeginsWithFrame, LongFramesStay};
 
-/// Laws of receive descriptors. A descriptor that is converted to bytes and back is the same descriptor. Sixteen bytes
-/// that are converted to a descriptor and back are the same bytes.
+/// Laws of receive descriptors. A descriptor whose fields fit into their widths, converted to bytes and back, is the
+/// same descriptor. Sixteen bytes that are converted to a descriptor and back are the same bytes.
 ///
 /// The function does nothing: its contract is the laws.
 pub fn descriptors_come_back()
@@ -12,8 +12,8 @@ pub fn descriptors_come_back()
     ensures bytes { BytesComeBack }
 {}
 
-/// Laws of transmit descriptors. A descriptor that is converted to bytes and back is the same descriptor. Sixteen bytes
-/// that are converted to a descriptor and back are the same bytes.
+/// Laws of transmit descriptors. A descriptor whose fields fit into their widths, converted to bytes and back, is the
+/// same descriptor. Sixteen bytes that are converted to a descriptor and back are the same bytes.
 ///
 /// The function does nothing: its contract is the laws.
 pub fn transmit_descriptors_come_back()
@@ -21,11 +21,14 @@ pub fn transmit_descriptors_come_back()
     ensures bytes { TxBytesComeBack }
 {}
 
-/// Laws of rings. If head and tail are indices of different slots, the slots that the adapter owns begin at the head.
-/// After the head then advances by one slot, the adapter owns the same slots without the first. If head equals tail,
-/// the adapter owns no slot. The number of the adapter's slots is the distance from head to tail. If the tail advances
-/// by one slot, but not to the head, the slot at the old tail becomes the adapter's last slot. This law also requires
-/// that head and tail are indices of slots.
+/// Laws of the slots that the adapter owns, in a ring.
+///
+/// - `begins`: if head and tail are indices of different slots, the adapter's first slot is the one at the head. After
+///   the head advances by one slot, the adapter owns the same slots without this one.
+/// - `empty`: if head equals tail, the adapter owns no slot.
+/// - `length`: the number of the adapter's slots is the distance from head to tail.
+/// - `grows`, if head and tail are indices of slots: when the tail advances by one slot, but not to the head, the slot
+///   at the old tail becomes the adapter's last slot.
 ///
 /// The function does nothing: its contract is the laws.
 pub fn offered_places_go_from_head_to_tail()
@@ -35,8 +38,8 @@ pub fn offered_places_go_from_head_to_tail()
     ensures grows { OfferedGrowAtTail }
 {}
 
-/// Laws of padding. A frame that can be sent is legal after it is padded. A padded frame begins with the frame. Padding
-/// doesn't change a frame of 60 bytes or more.
+/// Laws of padding with zeros to 60 bytes. A frame that can be sent is legal after it is padded. A padded frame begins
+/// with the frame. Padding doesn't change a frame of 60 bytes or more.
 ///
 /// The function does nothing: its contract is the laws.
 pub fn sendable_frames_are_padded_to_legal()

@@ -77,6 +77,7 @@ impl PackedQueue {
         ensures count { result ≡ length self.now.frames }
         ensures fits { result ≤ self.now.capacity }
     {
+        // There are at most `capacity` frames, and the capacity has 16 bits.
         self.lengths.len() as u16
     }
 
@@ -95,6 +96,7 @@ impl PackedQueue {
         requires { index < length self.now.frames }
         ensures { slice_get self.now.frames index ≡ Some result.now }
     {
+        // The bytes of a frame begin after those of all older frames.
         let mut start = self.first;
         for before in 0..index {
             start += usize::from(*self.lengths.get(before).unwrap());
@@ -103,8 +105,8 @@ impl PackedQueue {
         &self.bytes.as_slice()[start..start + length]
     }
 
-    /// Appends a frame of at most 65,535 bytes. The queue must have room for one more frame, and for the bytes of this
-    /// frame.
+    /// Appends a frame of at most 65,535 bytes, because a length has 16 bits. The queue must have room for one more
+    /// frame, and for the bytes of this frame.
     pub fn push(&mut self, frame: &[u8])
         requires place { length self.old.frames < self.old.capacity }
         requires room { sum_by length self.old.frames + length frame.now ≤ self.old.room }
@@ -161,13 +163,15 @@ impl PackedQueue {
     }
 }
 
-/// Moves the bytes from `first` up to, but not including, `end` to the start of `bytes`, if fewer than `more` bytes
-/// follow them. Returns the index at which the range begins after the call: 0 if it was moved, else `first`. The range
-/// must be inside `bytes`, which must have room for the range and `more` other bytes.
+/// Makes room for `more` bytes after the range from `first` up to, but not including, `end`. If fewer bytes are there,
+/// moves the range to the start of `bytes`. Returns the index at which the range begins after the call: 0 if it was
+/// moved, else `first`. The range must be inside `bytes`, which must have room for the range and `more` other bytes.
 fn make_room(bytes: &mut [u8], first: usize, end: usize, more: usize) -> usize
     requires order { first ≤ end }
     requires lies { end ≤ length bytes.old }
     requires fits { end - first + more ≤ length bytes.old }
+
+    // The range has the same bytes as before.
     ensures same { take (end - first) (drop result bytes.new) ≡ take (end - first) (drop first bytes.old) }
     ensures room { result + (end - first) + more ≤ length bytes.new }
     ensures size { length bytes.new ≡ length bytes.old }
@@ -179,13 +183,15 @@ fn make_room(bytes: &mut [u8], first: usize, end: usize, more: usize) -> usize
     0
 }
 
-/// Writes a frame after the bytes from `first` up to, but not including, `end`. If the frame doesn't fit there, first
-/// moves this range to the start of `bytes`. Returns the index at which the range begins after the call. The range must
-/// be inside `bytes`, which must have room for the range and the frame.
+/// Writes a frame right after the range from `first` up to, but not including, `end`. If there is no room, the range is
+/// moved to the start of `bytes` before. Returns the index at which the range begins after the call. The range must be
+/// inside `bytes`, which must have room for the range and the frame.
 fn append(bytes: &mut [u8], first: usize, end: usize, frame: &[u8]) -> usize
     requires order { first ≤ end }
     requires lies { end ≤ length bytes.old }
     requires fits { end - first + length frame.now ≤ length bytes.old }
+
+    // After the call, the frame follows the bytes of the range.
     ensures appended { take (end - first + length frame.now) (drop result bytes.new)
         ≡ take (end - first) (drop first bytes.old) ++ frame.now }
     ensures lies { result + (end - first) + length frame.now ≤ length bytes.new }

@@ -76,6 +76,7 @@ impl FrameQueue {
     pub fn capacity(&self) -> u8
         ensures { result ≡ self.now.capacity }
     {
+        // The capacity has 8 bits: `new` got it as a `u8`.
         self.lengths.capacity() as u8
     }
 
@@ -84,6 +85,7 @@ impl FrameQueue {
         ensures count { result ≡ length self.now.frames }
         ensures fits { result ≤ self.now.capacity }
     {
+        // There are at most `capacity` frames, and the capacity has 8 bits.
         self.lengths.len() as u8
     }
 
@@ -132,7 +134,7 @@ impl FrameQueue {
         } }
     {
         let length = frame.len().max(least);
-        // The new frame's place, before it wraps, is the one after the newest frame.
+        // The new frame's place is the one after the newest frame's. If this is after the last place, it is place 0.
         let behind = usize::from(self.first) + self.lengths.len();
         let start = wrap(behind, self.lengths.capacity()) * PLACE_BYTES;
         write_padded(self.bytes.as_mut_slice(), start, frame, length);
@@ -144,6 +146,7 @@ impl FrameQueue {
     pub fn pop(&mut self)
         ensures { self.new ≡ record self.old { frames = drop 1 self.old.frames } }
     {
+        // The next frame is in the next place, and is then the oldest one.
         if self.lengths.pop_front().is_some() {
             self.first = wrap(usize::from(self.first) + 1, self.lengths.capacity()) as u8;
         }
@@ -187,6 +190,7 @@ impl FrameQueue {
 }
 
 /// Returns the index of a place after at most one wrap: `place` if it is below the capacity, else `place - capacity`.
+/// So the place after the last one is place 0.
 fn wrap(place: usize, capacity: usize) -> usize
     ensures { result ≡ wrapped capacity place }
 {

@@ -19,7 +19,7 @@ abbrev pub HaveSameNumbers : List ℕ → List ℕ → Type 0
 HaveSameNumbers xs ys = (k : ℕ) → copies k xs ≡ copies k ys
 
 -- Each number below n is at exactly one place of the list. No other number is in the list.
-pub record EachStandsOnce (n : ℕ) (numbers : List ℕ) : Type 0 where
+pub record EachOccursOnce (n : ℕ) (numbers : List ℕ) : Type 0 where
   -- Each number below n is in the list.
   pub somewhere : (k : ℕ) → k < n → (i : ℕ) × (slice_get numbers i ≡ Some k)
   -- No number is at two places.
@@ -27,9 +27,9 @@ pub record EachStandsOnce (n : ℕ) (numbers : List ℕ) : Type 0 where
   -- Each number of the list is below n.
   pub known : (i k : ℕ) → slice_get numbers i ≡ Some k → k < n
 
--- Each number below n has one owner by counts (`HasOneOwner`) if and only if each has one by places (`EachStandsOnce`).
+-- Each number below n has one owner by counts (`HasOneOwner`) if and only if each has one by places (`EachOccursOnce`).
 abbrev pub CountsArePlaces : Type 0
-CountsArePlaces = (n : ℕ) (numbers : List ℕ) → HasOneOwner n numbers ↔ EachStandsOnce n numbers
+CountsArePlaces = (n : ℕ) (numbers : List ℕ) → HasOneOwner n numbers ↔ EachOccursOnce n numbers
 
 -- The count of a number in two joined lists is the sum of its counts in the two lists.
 abbrev pub OwnersAddUp : Type 0

@@ -2,7 +2,7 @@
 use Rattle.std.proofs.Common.{◌≡◌, ◌≤◌, ◌<◌, inl, inr, ◌∷◌, [], ℕ, zero, suc, List, Some, refl, sym, ap, arith}
 use Rattle.std.specs.Prelude.{slice_get}
 use Rattle.std.proofs.lemmas.Bool.{cases_eq, cases_lt}
-use Rattle.dma_memory.specs.Owners.{copies, HasOneOwner, EachStandsOnce, CountsArePlaces}
+use Rattle.dma_memory.specs.Owners.{copies, HasOneOwner, EachOccursOnce, CountsArePlaces}
 use Rattle.dma_memory.specs.OwnersLaws.{if_below, copies-cons, if_same-yes, if_same-no, if_below-yes, if_below-no, if_below-most}
 use Rattle.dma_memory.specs.OwnersLaws.{below_from_if_below}
 
@@ -44,14 +44,14 @@ counted_once k (x ∷ xs) one =
           (arith, rest, if_same-no k x differ, copies-cons k x xs)
     ]
 
-stands_once : (n : ℕ) (xs : List ℕ) → HasOneOwner n xs → EachStandsOnce n xs
+stands_once : (n : ℕ) (xs : List ℕ) → HasOneOwner n xs → EachOccursOnce n xs
 stands_once n xs one = record {
   somewhere = λ k below. place k xs (omega (arith, one k, if_below-yes k n below));
   nowhere_else = λ i j k. one_place k i j xs (omega (arith, one k, if_below-most k n));
   known = λ i k at. below_from_if_below k n (omega (arith, one k, counted k i xs at));
 }
 
-one_owner : (n : ℕ) (xs : List ℕ) → EachStandsOnce n xs → HasOneOwner n xs
+one_owner : (n : ℕ) (xs : List ℕ) → EachOccursOnce n xs → HasOneOwner n xs
 one_owner n xs stands k =
     elim (cases_lt k n) as (λ _. copies k xs ≡ if_below k n) [
       | inl below ↦ let at = stands.somewhere k below in omega

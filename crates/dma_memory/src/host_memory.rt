@@ -36,6 +36,7 @@ impl HostMemory {
     pub fn new(alloc: Global, size: u64) -> Result<HostMemory, AllocError>
         ensures zeros { IfOk result (λ memory. memory ≡ replicate size 0) }
     {
+        // `usize` has 64 bits, so the cast doesn't change the size.
         Ok(HostMemory {
             bytes: vec![in alloc; 0; size as usize]?,
         })
@@ -48,7 +49,7 @@ impl HostMemory {
         self.bytes.len() as u64
     }
 
-    /// Returns whether `count` bytes from `address` on are in the memory.
+    /// Returns whether memory contains all of the `count` bytes from `address` on. If `count` is 0, returns `true`.
     fn has(&self, address: u64, count: usize) -> bool
         ensures { IsTrue result ↔ LiesIn self.now address count }
     {

@@ -29,12 +29,23 @@ pub fn places_are_apart()
     ensures next_multiple { (counts : Counts) → BeginsAtNextMultiple counts }
 {}
 
-/// Laws of owners, for all lists of numbers. Each number below n has one owner by counts (`HasOneOwner`) exactly if
-/// each has one by places (`EachStandsOnce`). The counts of a number in two lists add up to its count in the joined
-/// list. If each number below n has one owner, and no other number has an owner, this remains true after a number moves
-/// to another owner. Then each owner's numbers are below n, no other owner has them, and the joined list has n numbers.
-/// If all numbers of a list are below n, and no number has a second owner, the list has at most n numbers. Such a list
-/// has fewer than n numbers if a number below n is missing.
+/// Laws of owners. An owner's numbers are a list, and several owners' numbers are their lists, joined. A number has one
+/// owner if it occurs once in the joined list.
+///
+/// - `places`: each number below n occurs once by its count (`HasOneOwner`) exactly if it is at one index
+///   (`EachOccursOnce`).
+/// - `sums`: the counts of a number in two lists add up to its count in the joined list.
+///
+/// Suppose that each number below n has one owner, and no other number has an owner:
+///
+/// - `moves`: this remains true after a number moves to another owner.
+/// - `elsewhere`: each owner's numbers are below n, and no other owner has them.
+/// - `length`: the joined list has n numbers.
+///
+/// Suppose that all numbers of a list are below n, and none occurs twice in the list:
+///
+/// - `most`: the list has at most n numbers.
+/// - `room`: the list has fewer than n numbers if a number below n is missing.
 ///
 /// The function does nothing: its contract is the laws.
 pub fn numbers_have_one_owner()

@@ -168,7 +168,7 @@ impl Layout {
         ensures end { result ≡ size_of self.now }
 
         // The greatest size, in bytes: two rings of 4,096 descriptors, 4,096 transmit buffers, and 8,192 receive
-        // buffers.
+        // buffers. So all addresses of a layout fit into 32 bits.
         ensures most { result ≤ 10616832 }
     {
         self.first_receive_buffer() + RECEIVE_BUFFER_BYTES * u64::from(self.buffers)
@@ -178,9 +178,10 @@ impl Layout {
     fn first_transmit_buffer(&self) -> u64
         ensures start { result ≡ start_of self.now (TransmitBuffer 0) }
 
-        // The end of two rings of 4,096 descriptors.
+        // The end of two rings of 4,096 descriptors. By this bound, no sum of addresses overflows in the callers.
         ensures most { result ≤ 131072 }
     {
+        // The transmit ring follows the receive ring.
         let rings_end = self.transmit_ring() + DESCRIPTOR_BYTES * u64::from(self.tx);
         rings_end.next_multiple_of(TRANSMIT_BUFFER_BYTES)
     }
@@ -189,7 +190,8 @@ impl Layout {
     fn first_receive_buffer(&self) -> u64
         ensures start { result ≡ start_of self.now (ReceiveBuffer 0) }
 
-        // The end of 4,096 transmit buffers after two rings of 4,096 descriptors.
+        // The end of 4,096 transmit buffers after two rings of 4,096 descriptors. By this bound, no sum of addresses
+        // overflows in the callers.
         ensures most { result ≤ 8519680 }
     {
         self.first_transmit_buffer() + TRANSMIT_BUFFER_BYTES * u64::from(self.tx)

@@ -33,7 +33,9 @@ impl BufId {
 /// number is in the pool or in a [`BufId`], unless this `BufId` was dropped.
 #[derive(Drop)]
 pub struct Pool {
+    /// The numbers in the pool, in a vector with room for all numbers.
     free: Vec<BufId>,
+    /// The number of receive buffers. Each number in the pool is below this number.
     buffers: u16,
 }
 
@@ -71,6 +73,7 @@ impl Pool {
         ensures count { result ≡ length self.now.free }
         ensures most { result ≤ self.now.buffers }
     {
+        // There are at most `buffers` numbers in the pool, so the cast doesn't change the count.
         self.free.len() as u16
     }
 

@@ -28,8 +28,8 @@ pub struct DriveLimits {
 
 impl DriveLimits {
     /// Returns whether the number of frames received is at least the number expected. Returns `false` if no number is
-    /// expected.
-    pub(crate) fn are_met(&self, received: u64) -> bool {
+    /// expected. The limit `idle` isn't tested.
+    pub(crate) fn is_expect_met(&self, received: u64) -> bool {
         match self.expect {
             Some(expected) => received >= expected,
             None => false,
@@ -54,12 +54,13 @@ pub struct DriveCounts {
 }
 
 impl DriveCounts {
-    /// Returns whether at least `frames` frames were passed to the driver, and at least `expect` frames were received.
-    /// If `expect` is `None`, the number of received frames doesn't matter.
-    pub fn is_all(&self, frames: u64, expect: Option<u64>) -> bool
+    /// Returns whether the drive is complete: at least `frames` frames were passed to the driver, and at least `expect`
+    /// frames were received. If `expect` is `None`, the number of received frames doesn't matter.
+    pub fn is_complete(&self, frames: u64, expect: Option<u64>) -> bool
         ensures { IsTrue result
             ↔ ((frames ≤ self.now.sent + self.now.illegal) × IfSome expect (λ n. n ≤ self.now.received)) }
     {
+        // A sum that saturates is at least `frames`, because `frames` is a `u64`.
         self.sent.saturating_add(self.illegal) >= frames && self.received >= expect.unwrap_or(0)
     }
 }

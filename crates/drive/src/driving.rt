@@ -63,7 +63,7 @@ fn reason(fault: Option<BusFault>, error: InitError) -> DriveError {
 
 /// Initializes an adapter with these rings, sends the frames of a list, and receives frames, until an end that `limits`
 /// determines. The frames received are written to `sink`, as a trace. The time of each frame in microseconds is the
-/// frame's number, from 0 on.
+/// frame's number, from 0 on. `sink` must have failed fewer than 2^64 - 1 times, so that it can count another failure.
 ///
 /// The frames are passed to the driver in order, each at most once. While its transmit ring is full, and after the last
 /// frame, the interrupt handler is called repeatedly. Each call reads ICR, so the bus needn't report the interrupt
@@ -97,6 +97,7 @@ pub fn drive<B: WatchedBus, S: Sink>(
         quiet: 0,
     };
     let handed = exchange.send_all(bus, sink, frames, limits.idle)?;
+    // The turns of `wait` are counted from 0, also if `send_all` ended because the transmit ring remained full.
     exchange.quiet = 0;
     exchange.wait(bus, sink, limits)?;
     exchange.writer.flush(sink)?;

@@ -17,8 +17,10 @@ use text::turns;
 const SOCKET: usize = 0;
 
 /// A host that exchanges frames with its adapter, and the trace of the frames that the host received. Each call
-/// requires a bus with at least the memory of the driver's layout. After an error, the contracts state only what no
-/// call changes (`Keeps`).
+/// requires a bus with at least the memory of the driver's layout.
+///
+/// A call with a sink requires that the sink can count another failure (`countable`). If the call returns Ok, the sink
+/// hasn't failed (`failures`). After an error, the contracts state only what no call changes (`Keeps`).
 #[derive(Drop)]
 pub(crate) struct Exchange {
     pub(crate) host: Host,
@@ -40,7 +42,8 @@ pub(crate) struct Handed {
 }
 
 impl Handed {
-    /// Counts a frame that was passed to the driver.
+    /// Counts a frame that was passed to the driver: as sent if it has 14 to 1,518 bytes, because the driver accepts
+    /// these lengths, or else as illegal.
     fn count(&mut self, frame: &[u8])
         ensures sent { self.new.sent
             ≡ (if is_sendable frame.now then saturated (self.old.sent + 1) else self.old.sent) }
@@ -71,6 +74,7 @@ impl Exchange {
         ensures failures { OnOk result (S.failures sink.new ≡ S.failures sink.old) }
     {
         let mut frame = [0; LONGEST_LEGAL];
+        // The host has this socket, so an error means that no frame waits.
         let Ok(size) = self.host.recv(bus, SOCKET, &mut frame) else {
             return Ok(false);
         };
@@ -93,6 +97,7 @@ impl Exchange {
             (moment_of bus.old self.old (S.taken sink.old)) (moment_of bus.new self.new (S.taken sink.new))) }
         ensures failures { OnOk result (S.failures sink.new ≡ S.failures sink.old) }
     {
+        // The loop has at most 2^64 - 1 turns, so that its end can be proved.
         for _count in turns() {
             if !self.take_frame(bus, sink)? {
                 break;
@@ -130,7 +135,7 @@ impl Exchange {
     }
 
     /// Passes a frame to the driver. Returns `false` if its transmit ring is full, and `true` if the driver accepted or
-    /// rejected the frame.
+    /// rejected the frame. The call uses no sink, so `exchanges` holds for any bytes `taken` of a sink.
     fn hand<B: WatchedBus>(&mut self, bus: &mut B, frame: &[u8]) -> bool
         requires { size_of self.old.host.driver.layout ≤ B.Bus.extent bus.old }
         ensures keeps { Keeps B.Bus bus.old bus.new }
@@ -161,6 +166,7 @@ impl Exchange {
             (moment_of bus.old self.old (S.taken sink.old)) (moment_of bus.new self.new (S.taken sink.new))) }
         ensures failures { OnOk result (S.failures sink.new ≡ S.failures sink.old) }
     {
+        // The loop has at most 2^64 - 1 turns, so that its end can be proved.
         for _turn in turns() {
             if self.hand(bus, frame) {
                 self.quiet = 0;
@@ -175,7 +181,7 @@ impl Exchange {
     }
 
     /// Makes a turn if the interrupt line is asserted.
-    fn answer_line<B: WatchedBus, S: Sink>(
+    fn turn_if_asserted<B: WatchedBus, S: Sink>(
         &mut self,
         bus: &mut B,
         sink: &mut S,
@@ -218,7 +224,7 @@ impl Exchange {
                 break;
             }
             handed.count(frame);
-            self.answer_line(bus, sink)?;
+            self.turn_if_asserted(bus, sink)?;
         }
         Ok(handed)
     }
@@ -238,8 +244,9 @@ impl Exchange {
             (moment_of bus.old self.old (S.taken sink.old)) (moment_of bus.new self.new (S.taken sink.new))) }
         ensures failures { OnOk result (S.failures sink.new ≡ S.failures sink.old) }
     {
+        // The loop has at most 2^64 - 1 turns, so that its end can be proved.
         for _turn in turns() {
-            if limits.are_met(self.received) || self.quiet >= limits.idle {
+            if limits.is_expect_met(self.received) || self.quiet >= limits.idle {
                 break;
             }
             self.turn(bus, sink)?;

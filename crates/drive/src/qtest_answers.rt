@@ -86,8 +86,9 @@ impl<R: BufRead> Answers<R> {
     }
 
     /// Reads lines up to and including the next answer. Stores the level that the last `IRQ` line before the answer
-    /// reports, if there is such a line.
+    /// reports, if there is such a line. Fails as `read_line` does.
     fn next(&mut self) -> Result<(), BusFault> {
+        // The loop reads at most 2^64 - 1 lines, so that its end can be proved.
         for _count in turns() {
             self.read_line()?;
             match kind_of(self.line.as_slice()) {
@@ -99,7 +100,7 @@ impl<R: BufRead> Answers<R> {
         Err(BusFault::Read)
     }
 
-    /// Reads the answer to a write, which must be `OK`.
+    /// Reads the answer to a write. Fails with `Answer` if the answer isn't `OK`, or as `next` does.
     pub(crate) fn done(&mut self) -> Result<(), BusFault> {
         self.next()?;
         if self.line.as_slice() == DONE {
@@ -109,8 +110,8 @@ impl<R: BufRead> Answers<R> {
         }
     }
 
-    /// Reads the answer to a read of bytes, and fills `into` with the bytes. The answer must have two digits for each
-    /// byte. After an error, `into` may be changed.
+    /// Reads the answer to a read of bytes, and fills `into` with the bytes. Fails with `Answer` unless the answer is
+    /// `OK 0x` and two digits for each byte, or as `next` does. After an error, `into` may be changed.
     pub(crate) fn bytes(&mut self, into: &mut [u8]) -> Result<(), BusFault>
         ensures length { length into.new ≡ length into.old }
     {
@@ -122,7 +123,8 @@ impl<R: BufRead> Answers<R> {
         }
     }
 
-    /// Reads the answer to a read of a register, which must have 16 digits, of which the first eight are 0.
+    /// Reads the answer to a read of a register, and returns the register's value. Fails with `Answer` unless the
+    /// answer is `OK 0x` and 16 digits, of which the first eight are 0, or as `next` does.
     pub(crate) fn value(&mut self) -> Result<u32, BusFault> {
         let mut bytes = [0; VALUE_BYTES];
         self.bytes(&mut bytes)?;

@@ -18,12 +18,14 @@ fn push_number(text: &mut Vec<u8>, number: u64) -> Result<(), AllocError>
     ensures { OnOk result (text.new.items ≡ text.old.items ++ number_text number) }
 {
     let mut digits = [0; DIGITS];
+    // `digits` has room for two digits of each of the eight bytes, so the result is Ok.
     hex::encode_to_slice(number.to_be_bytes(), &mut digits).unwrap();
     text.extend_from_slice(b" 0x")?;
     text.extend_from_slice(&digits)
 }
 
-/// The writer of requests, and the address of the registers in the program that answers.
+/// The writer of requests, and the address of the registers in the program that answers. A call that writes a request
+/// fails with `Memory` if memory was refused, and with `Write` if the writer failed.
 #[derive(Drop)]
 pub(crate) struct Requests<W> {
     pub(crate) output: W,

@@ -39,7 +39,7 @@ use Rattle.bus.specs.Beginnings.{new_driver}
 use Rattle.bus.specs.DriverState.{DriverSetup, DriverState, transmit_tail}
 use Rattle.bus.specs.ReadyDrivers.{ReadyWith}
 use Rattle.bring_up.specs.ClearedDescriptors.{clears_from}
-use Rattle.bring_up.specs.Configuration.{CanBeHad, configured_counts, vlans_of}
+use Rattle.bring_up.specs.Configuration.{IsValidIn, configured_counts, vlans_of}
 use Rattle.bring_up.specs.ConfiguredAdapters.{HasSetup, IsConfigured, names_vlans, setup_of, writes_before_rings}
 use Rattle.bring_up.specs.DriverSteps.{LeavesDriver, LetsFramesIn, SetsTransmitRing, EnablesCauses, accesses_of}
 use Rattle.bring_up.specs.NoFrames.{IsNotTransmitRing, HasNoFrames, LeavesTransmitRing}
@@ -158,7 +158,7 @@ behind-receive config =
     ++ (ring_setup_writes 0x3800 (16 * config.rx) (16 * config.tx) ++ (transmit_writes ++ mask_writes)))
 
 pub finds-ring : {B : Type 0} (bus : Ghosts B) (b0 b1 b2 b3 : B)
-    (config : Config) (size : ℕ) (image : List ℕ) → CanBeHad config size → 16 * config.rx ≤ length (bus.world b2).memory
+    (config : Config) (size : ℕ) (image : List ℕ) → IsValidIn config size → 16 * config.rx ≤ length (bus.world b2).memory
     → IsFound bus config.rxa b0 b1 image → SetsFilter bus config.groups.items (vlans_of config.vlans) (address_bytes image) b1 b2
     → SetsAtRest bus (ring_setup_writes 0x2800 0 (16 * config.rx)) (HasNewRings config.rx) (HasReceiveRing config.rx) b2 b3
     → HasFoundRing bus config (address_bytes image) b0 b3
@@ -326,7 +326,7 @@ link-up config address groups vlans groups_whole vlans_whole w1 w2 w3 w4 w5 p2 p
 
 pub initialises : {B : Type 0} (bus : Ghosts B) → IntervalsJoin bus
     → (b0 b1 b2 b3 b4 b5 : B) (config : Config) (size : ℕ) (address : List ℕ) (groups : List (List ℕ)) (pool numbers : List ℕ)
-    (d : DriverState) (past : Past) → CanBeHad config size
+    (d : DriverState) (past : Past) → IsValidIn config size
     → bus.happened b0 b1 past → HasFoundRing bus config address b0 b1 → RecordsNoCause past → length numbers + 1 ≡ config.rx
     → d ≡ offering (configured_counts config) (setup_of config address) groups pool numbers d.pool → AreNamedOnce config.groups.items groups
     → (first : Ran bus false (only (first_accesses (configured_counts config) numbers)) (at b1 (new_driver
@@ -426,6 +426,7 @@ initialises bus joins b0 b1 b2 b3 b4 b5 config size address groups pool numbers 
       };
       adapter = record {
         sum = found.sum;
+        address = found.address;
         image = ap (λ (settings : Settings). settings.image) all ∙ set.1;
         configured = configured;
         up = link-up config words found.groups found.vlans tables.has_groups.words tables.has_vlans.words (bus.world b1) (bus.world b2)

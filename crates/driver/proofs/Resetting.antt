@@ -42,7 +42,7 @@ use Rattle.bring_up.proofs.Steps.{IntervalsJoin, no-frames}
 use Rattle.bring_up.proofs.WritesAtRest.{allocation-aside, link-aside}
 use Rattle.bring_up.proofs.WritesOf.{link-first, rings-last}
 use Rattle.bring_up.specs.ClearedDescriptors.{clears_from}
-use Rattle.bring_up.specs.Configuration.{CanBeHad, configured_counts, vlans_of}
+use Rattle.bring_up.specs.Configuration.{IsValidIn, configured_counts, vlans_of}
 use Rattle.bring_up.specs.ConfiguredAdapters.{AreWords, FilterHasSetup, HasSetup, names_vlans, setup_of, writes_before_rings}
 use Rattle.bring_up.specs.DriverSteps.{ResetsDriver}
 use Rattle.bring_up.specs.DriverSteps.{EnablesCauses, LetsFramesIn}
@@ -131,7 +131,7 @@ set-of bus old new writes sets =
     sets.settings ∙ ap (λ (list : List Write). settings_after_all list (settings_of (bus.world old).adapter)) (sym sets.writes_are)
 
 again-at-rest : {B : Type 0} (bus : Ghosts B) → IntervalsJoin bus → (old b3 b4 b5 b6 b7 : B) (config : Config) (named : List (List ℕ))
-    (address : List ℕ) (size : ℕ) (again : DriverState) → CanBeHad config size → 16 * config.rx ≤ length (bus.world b3).memory
+    (address : List ℕ) (size : ℕ) (again : DriverState) → IsValidIn config size → 16 * config.rx ≤ length (bus.world b3).memory
     → settings_of (bus.world b3).adapter ≡ settings_after_all reset_writes (settings_of (bus.world old).adapter)
     → RestsWith again (bus.world b3)
     → (s4 : SetsOnly bus (allocation_writes config.rxa) b3 b4) → (s5 : SetsOnly bus enable_link_writes b4 b5)
@@ -219,7 +219,7 @@ pub resets-all : {B : Type 0} (bus : Ghosts B) → IntervalsJoin bus → (up : B
     → (let e2 = missed_added v e0 in
     let again = reset_driver pool e2 in
     let e8 = with_owners again numbers [] left e0.handed_out in
-    e0.layout ≡ configured_counts config → e0.setup ≡ setup_of config address → CanBeHad config size
+    e0.layout ≡ configured_counts config → e0.setup ≡ setup_of config address → IsValidIn config size
     → 16 * config.rx ≤ length (bus.world b3).memory
     → (stop : Ran bus up (only (stop_accesses v)) (at b0 e0) (at b2 e2))
     → IsOff (bus.world b2) → (bus.world b2).adapter.missed_packets ≡ 0

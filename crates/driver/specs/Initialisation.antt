@@ -150,10 +150,11 @@ pub record IsStarted (d : DriverState) (world : World) (later : Past) : Type 0 w
   pub work : HasNoForgottenWork d world
   pub frames : FramesSinceStart d world later
 
--- The EEPROM has the right checksum and is unchanged. The settings are those of the configuration, with the address in
--- the EEPROM's first three words. The link is up, and no MDIC command is pending.
+-- The EEPROM has the right checksum and is unchanged. Its first three words contain an address of six bytes. The settings
+-- are those of the configuration, with this address. The link is up, and no MDIC command is pending.
 pub record IsSetUp (config : Config) (old new : World) : Type 0 where
   pub sum : HasRightSum old.adapter.image
+  pub address : IsAddress (address_bytes old.adapter.image)
   pub image : new.adapter.image ≡ old.adapter.image
   pub configured : IsConfigured config (address_bytes old.adapter.image) (settings_of new.adapter)
   pub up : HasLink new

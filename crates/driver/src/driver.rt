@@ -63,7 +63,8 @@ impl Driver {
         self.layout
     }
 
-    /// Returns the number of receive slots that are outstanding or staged. No receive buffer has two owners.
+    /// Returns the number of receive slots that are outstanding or staged. `one_owner` states a part of the driver's
+    /// invariant: no receive buffer has two owners.
     pub fn receiving(&self) -> usize
         ensures count { result ≡ length self.now.buffers + length self.now.staged }
         ensures one_owner { HasNoSecondOwner self.now.layout.buffers (owners self.now) }

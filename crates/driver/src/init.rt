@@ -4,7 +4,7 @@ ghost use Rattle.std.specs.Prelude.{◌≡◌, ◌↔◌, ◌*◌, ◌≤◌, Er
 ghost use Rattle.dma_memory.specs.Layout.{IsAllowed, descriptor_bytes, size_of};
 ghost use Rattle.dma_memory.specs.Owners.{HasOneOwner};
 ghost use Rattle.adapter.specs.Rings.{new_ring};
-ghost use Rattle.bring_up.specs.Configuration.{CanBeHad, configured_counts};
+ghost use Rattle.bring_up.specs.Configuration.{IsValidIn, configured_counts};
 ghost use Rattle.bring_up.specs.Device.{IsBeforeAccess};
 ghost use Rattle.bring_up.specs.declared.init_error.InitError.TheVariants as InitError;
 ghost use Rattle.bus.specs.Keeping.{Keeps};
@@ -29,16 +29,16 @@ use circular_buffer::HeapCircularBuffer;
 use dma_memory::{DESCRIPTOR_BYTES, Layout, Pool};
 use std::alloc::{AllocError, Global};
 
-/// Finds the device, and sets up its receive filter and its receive ring, with no slot offered. Returns the Ethernet
-/// address in the device's EEPROM. `config` must be valid in the memory of the bus, and `layout` must be the layout of
-/// `config`.
+/// Finds the device with [`find_device`], and then sets up its receive filter and its receive ring, with no slot
+/// offered. Returns the Ethernet address in the device's EEPROM. `config` must be valid in the memory of the bus
+/// (`IsValidIn`), and `layout` must be the layout of `config`.
 ///
 /// # Errors
 ///
-/// Those of [`find_device`], which aren't E10 or E15.
+/// E11 to E14, as [`find_device`] returns them. E10 and E15 are never returned (`errors`).
 fn find_ring<B: Bus>(bus: &mut B, config: &Config, layout: Layout) -> Result<[u8; 6], InitError>
     requires counts { layout ≡ configured_counts config.now }
-    requires had { CanBeHad config.now (B.extent bus.old) }
+    requires had { IsValidIn config.now (B.extent bus.old) }
     ensures keeps { Keeps B.Bus bus.old bus.new }
     ensures errors { IfErr result (λ error. ¬ (IsBeforeAccess error)) }
     ensures finds { B.honest bus.old → FindsRing B.Bus config.now result bus.old bus.new }
@@ -68,8 +68,9 @@ pub(crate) fn place_of(base: u64, slots: u16) -> RingPlace
 /// Clears the descriptors of the transmit ring, sets up this ring with no slot offered, and enables the transmitter.
 /// `layout` must be valid, and `bus` must have at least `layout.size()` bytes.
 ///
-/// The clause `ran` is for a driver that is ready with its transmit side off, has no outstanding transmit slot, and has
-/// slot 0 as its oldest transmit slot. The registers of the transmit ring must be 0, as after a reset.
+/// `ran`: let a driver be ready with its transmit side off, with no outstanding transmit slot, and with slot 0 as its
+/// oldest transmit slot. Let the registers of the transmit ring be 0, as after a reset. Then the driver is ready after
+/// the call, with its transmit side set up, and there is no other access.
 pub(crate) fn set_up_transmitter<B: Bus>(bus: &mut B, layout: Layout)
     requires allowed { IsAllowed layout }
     requires memory { size_of layout ≤ B.extent bus.old }
@@ -123,9 +124,9 @@ impl Driver {
         self.setup.address = address;
     }
 
-    /// Stages all receive slots except the last one, clears the descriptor of the last slot, and offers the staged
-    /// slots. The driver must have offered no slot, must have each buffer once in its pool, and must have at least one
-    /// buffer for each receive slot.
+    /// Stages all receive slots except the last one, clears the descriptor of the last slot, which gets no buffer, and
+    /// offers the staged slots. The driver must have offered no slot, must have each buffer once in its pool, and must
+    /// have at least one buffer for each receive slot.
     fn offer_first<B: Bus>(&mut self, bus: &mut B)
         requires memory { size_of self.old.layout ≤ B.extent bus.old }
         requires new { self.old ≡ new_driver self.old.layout self.old.setup self.old.groups self.old.pool }
@@ -154,7 +155,7 @@ impl Driver {
         ensures keeps { Keeps B.Bus bus.old bus.new }
 
         // Over any bus.
-        ensures config { (result ≡ Err InitError.Config) ↔ ¬ CanBeHad config.now (B.extent bus.old) }
+        ensures config { (result ≡ Err InitError.Config) ↔ ¬ IsValidIn config.now (B.extent bus.old) }
         ensures unasked { IfErr result (λ error. IsBeforeAccess error → bus.new ≡ bus.old) }
         ensures fresh { IfOk result (IsFresh config.now) }
 

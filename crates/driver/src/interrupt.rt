@@ -47,10 +47,10 @@ fn adds_exactly(missed: u64, value: u32) -> bool
 }
 
 impl Driver {
-    /// Reads MPC, adds its value to the sum of missed frames, up to the greatest `u64`, and returns this value. The sum
-    /// remains exact only if the value is added exactly (`adds_exactly`). If the bus obeys the law, MPC is 0 after the
-    /// call (`cleared`), and RCTL doesn't change (`settings`). So a receiver that a reset has disabled remains
-    /// disabled.
+    /// Reads MPC, adds its value to the sum of missed frames, up to the greatest `u64`, and returns this value, which
+    /// only contracts use. The sum remains exact only if the value is added exactly (`adds_exactly`). If the bus obeys
+    /// the law, MPC is 0 after the call (`cleared`), and RCTL doesn't change (`settings`). So a receiver that a reset
+    /// has disabled remains disabled.
     pub(crate) fn count_missed<B: Bus>(&mut self, bus: &mut B) -> u32
         ensures keeps { Keeps B.Bus bus.old bus.new }
         ensures others { self.new ≡ missed_added result self.old }

@@ -65,7 +65,7 @@ fn is_sound(descriptor: &RxDesc) -> bool
 }
 
 impl Run {
-    /// Returns a run without slots.
+    /// Returns a run without slots. `whole` is true until a slot is added that can't contain a piece of a whole frame.
     fn new() -> Run
         ensures { result ≡ new_run }
     {
@@ -104,7 +104,8 @@ impl Run {
 }
 
 impl Driver {
-    /// Returns the number of outstanding receive slots. No receive buffer has two owners.
+    /// Returns the number of outstanding receive slots. `one_owner` states a part of the driver's invariant: no receive
+    /// buffer has two owners.
     fn outstanding(&self) -> usize
         ensures count { result ≡ length self.now.buffers }
         ensures one_owner { HasNoSecondOwner self.now.layout.buffers (owners self.now) }
@@ -113,7 +114,8 @@ impl Driver {
     }
 
     /// Loads and returns the descriptor of the slot that is `places` places after the oldest slot. `places` must be
-    /// below the number of outstanding slots.
+    /// below the number of outstanding slots. If the bus obeys the law and the driver is ready, there is no other
+    /// access, and DD shows whether the slot is finished (`looks`).
     fn descriptor_after<B: Bus>(&self, bus: &mut B, places: usize) -> RxDesc
         requires memory { size_of self.now.layout ≤ B.extent bus.old }
         requires outstanding { places < length self.now.buffers }
@@ -133,7 +135,8 @@ impl Driver {
     /// frame has at most six pieces. Returns `None` if the call first reaches a slot that isn't finished or isn't
     /// outstanding. DD, EOP and the length of a slot come from the same load. No slot is taken.
     ///
-    /// The number of outstanding slots fits into `usize` (`fits`), and no receive buffer has two owners (`one_owner`).
+    /// Two clauses follow from the driver's invariant, and state nothing of the look. The number of outstanding slots
+    /// fits into `usize` (`fits`), and no receive buffer has two owners (`one_owner`).
     pub(crate) fn look<B: Bus>(&self, bus: &mut B) -> Option<Run>
         requires memory { size_of self.now.layout ≤ B.extent bus.old }
         ensures keeps { Keeps B.Bus bus.old bus.new }

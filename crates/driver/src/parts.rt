@@ -81,7 +81,7 @@ impl Parts {
         self.count += 1;
     }
 
-    /// Removes and returns the last piece. Returns `None` if there is no piece.
+    /// Removes and returns the last piece. If there is no piece, returns `None`, and the list remains empty.
     pub fn pop(&mut self) -> Option<Part>
         ensures none { IfNone result (self.old ≡ []) }
         ensures last { IfSome result (λ part. self.old ≡ self.new ++ part ∷ []) }

@@ -44,7 +44,8 @@ fn take_parts(queue: &mut HeapCircularBuffer<BufId>, lengths: &[u16]) -> Parts
 
 impl Driver {
     /// Takes the slots of a run off the ring, and returns their buffers, each with the length of its data. The run must
-    /// have at most six slots, and all these slots must be outstanding.
+    /// have at most six slots, and all these slots must be outstanding. `size` is true of each run, because its lengths
+    /// are an array of six items. No buffer is both returned and still owned by the driver (`one_owner`).
     fn take_run(&mut self, run: &Run) -> Parts
         requires size { length run.now.lengths ≡ MOST_PARTS }
         requires few { run.now.count ≤ MOST_PARTS }
@@ -90,8 +91,10 @@ impl Driver {
     }
 
     /// Passes on a run that was taken, and returns whether the run contains a whole frame. A whole frame is shown to
-    /// the receiver. The buffers of any other run return to the pool, and the run is counted as bad. `parts` must be
-    /// the buffers of the run with their lengths, and these buffers must have no other owner.
+    /// the receiver. The buffers of any other run return to the pool, and the run is counted as bad.
+    ///
+    /// `parts` must be the buffers of the run with their lengths, and these buffers must have no other owner. If the
+    /// run is whole, its length must be legal, and each part must fit into a buffer.
     fn pass_on<B: Bus, R: Receiver>(
         &mut self,
         bus: &mut B,

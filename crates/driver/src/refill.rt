@@ -56,7 +56,8 @@ fn give_all(pool: &mut Pool, parts: Parts)
 
 impl Driver {
     /// Stages the next receive slot: stores its descriptor, with a free buffer. Returns `false`, and does nothing, if
-    /// no buffer is free, or all receive slots except one are outstanding or staged.
+    /// no buffer is free, or all receive slots except one are outstanding or staged. So at least one slot is neither
+    /// outstanding nor staged (`room`).
     fn stage<B: Bus>(&mut self, bus: &mut B) -> bool
         requires memory { size_of self.old.layout ≤ B.extent bus.old }
         ensures keeps { Keeps B.Bus bus.old bus.new }
@@ -107,6 +108,7 @@ impl Driver {
             (at bus.old self.old) (at bus.new self.new) }
     {
         bus.write(RDT, u32::from(self.next_receive));
+        // The queue keeps the buffers of the staged slots, which now count as outstanding.
         self.staged = 0;
     }
 
@@ -154,6 +156,9 @@ impl Driver {
     /// Takes back the buffers of a frame from its receiver: puts them into the pool, and refills the ring. The numbers
     /// of these buffers must be below the number of the driver's buffers, and the buffers must have no other owner.
     /// `bus` must have at least `layout().size()` bytes.
+    ///
+    /// If the bus obeys the law and the driver is ready, the accesses are those of [`refill`](Driver::refill). After
+    /// the call, others hold no pieces in these buffers (`gives`).
     pub fn give<B: Bus>(&mut self, bus: &mut B, parts: Parts)
         requires memory { size_of self.old.layout ≤ B.extent bus.old }
         requires one_owner { HasNoSecondOwner self.old.layout.buffers (buffers_in parts ++ owners self.old) }

@@ -35,9 +35,9 @@ fn give_buffers(pool: &mut Pool, buffers: &mut HeapCircularBuffer<BufId>)
 }
 
 impl Driver {
-    /// Returns the place of the oldest outstanding receive slot, or of the next slot to be offered if no slot is
-    /// outstanding.
-    pub fn oldest(&self) -> u16
+    /// Returns the place of the oldest outstanding receive slot, or of the next receive slot to be offered if no slot
+    /// is outstanding. A reset drops the received frames in the slots from this place on.
+    pub fn oldest_receive(&self) -> u16
         ensures { result ≡ self.now.oldest_receive }
     {
         self.oldest_receive
@@ -58,7 +58,8 @@ impl Driver {
         self.sending = 0;
     }
 
-    /// Returns the number of staged slots. At least one receive slot is neither outstanding nor staged (`room`).
+    /// Returns the number of staged slots. At least one receive slot is neither outstanding nor staged (`room`), so the
+    /// result is below the number of receive slots.
     fn staged_count(&self) -> u16
         ensures count { result ≡ length self.now.staged }
         ensures room { length self.now.buffers + length self.now.staged < self.now.layout.rx }

@@ -22,8 +22,9 @@ pub(crate) struct Setup {
 }
 
 impl Setup {
-    /// Returns the setup of a configuration, with an address of zeros until the adapter's address is known. The value
-    /// of RXA, the groups and the VLANs of the configuration must be valid.
+    /// Returns the setup of a configuration, with an address of zeros until the adapter's address is known. RXA and the
+    /// VLANs of the configuration must be valid. Its groups must be valid, too, only because `HasRightNumbers` is about
+    /// the whole configuration.
     pub(crate) fn of(config: &Config) -> Setup
         requires { HasRightNumbers config.now }
         ensures is { setup_in result ≡ setup_of config.now (replicate 6 0) }

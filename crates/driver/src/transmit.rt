@@ -55,8 +55,8 @@ fn shows_done(bytes: &[u8; TX_DESC_BYTES]) -> bool
     TxDesc::from_bytes(bytes).status.contains(TxStatus::DD)
 }
 
-/// Returns the transmit descriptor of a frame of `size` bytes at the address `buffer`. The descriptor has EOP, IFCS
-/// (insert the frame check sequence) and RS (report status).
+/// Returns the transmit descriptor of a whole frame of `size` bytes, in one buffer at the address `buffer`. The
+/// descriptor has EOP, IFCS (insert the frame check sequence) and RS (report status).
 fn whole_descriptor(buffer: u64, size: u16) -> [u8; TX_DESC_BYTES]
     ensures { result ≡ whole_descriptor buffer size }
 {
@@ -74,7 +74,8 @@ fn whole_descriptor(buffer: u64, size: u16) -> [u8; TX_DESC_BYTES]
 
 impl Driver {
     /// Loads the descriptor of the oldest outstanding transmit slot, and frees this slot if the descriptor has DD. If
-    /// no transmit slot is outstanding, there is no access. Returns whether a slot was freed.
+    /// no transmit slot is outstanding, there is no access. Returns whether a slot was freed. For a ready driver over a
+    /// bus that obeys the law, `false` means that no outstanding slot is written back.
     fn free_oldest<B: Bus>(&mut self, bus: &mut B) -> bool
         requires memory { size_of self.old.layout ≤ B.extent bus.old }
         ensures keeps { Keeps B.Bus bus.old bus.new }

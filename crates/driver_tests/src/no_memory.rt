@@ -33,7 +33,7 @@ fn calls<B: Bus>(rt: &impl Abort, host: &mut Host, bus: &mut B) {
 fn receives(rt: &impl Abort, bus: &mut SoloBus) {
     bus.arrive(&FRAME);
     assert_eq!(rt; bus.waiting(), 0);
-    bus.play(&[
+    bus.queue(&[
         SoloTick::Step(StepKind::RxData),
         SoloTick::Step(StepKind::RxDone),
     ]);

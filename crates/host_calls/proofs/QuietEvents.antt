@@ -54,7 +54,7 @@ pub leaves-alone : (events : List Event) → All IsStep events → All LeavesCau
 leaves-alone events are =
     subst (λ (list : List Access). All LeavesCauses list) (sym (no_access events are)) (all-none LeavesCauses)
 
-front-reports : (buffer more : List Queued) → All Reports (buffer ++ more) → IfFront buffer (λ queued. queued.report ≡ true)
+front-reports : (buffer more : List Queued) → All Reports (buffer ++ more) → IfFront buffer (λ queued. queued.rs ≡ true)
 front-reports [] more all = tt
 front-reports (queued ∷ later) more all = all-head Reports queued (later ++ more) all
 

@@ -34,7 +34,7 @@ use Rattle.host_calls.proofs.WaitingFrames.{full-by-counting, room-by-counting, 
 use Rattle.host_calls.specs.CountedHosts.{IsCounted}
 use Rattle.host_calls.specs.Counts.{HostCounts, counts_of}
 use Rattle.host_calls.specs.AnswersLaws.{AbsentHostsAnswerNothing, CountsGoByOutcomes, FaultNeverComes, FaultNeverComesAroundReset}
-use Rattle.host_calls.specs.AnswersLaws.{GoAnswersNothing, MeetsNoFault, TicksAreAnsweredByCounting, WaitingFramesGoByOutcomes}
+use Rattle.host_calls.specs.AnswersLaws.{GoAnswersNothing, MeetsNoFault, OutcomesFollowFromCounts, WaitingFramesGoByOutcomes}
 use Rattle.host_calls.specs.StepOutcomes.{IsTickOutcome, IsDelivery, IsStepOutcome, IsTickOf, OfEachTick, counts_at, stations_behind}
 use Rattle.host_calls.specs.WaitingFrames.{waiting_at}
 
@@ -311,7 +311,7 @@ run-behind caller host steps before later step a leads same faultless =
     (none-fault host before (each-first host before (step ∷ later) whole)) (trail-of caller host before a (stations_behind before a) leads)
     faultless.run
 
-pub ticks-answered : TicksAreAnsweredByCounting
+pub ticks-answered : OutcomesFollowFromCounts
 ticks-answered caller host steps a b leads counted faultless before later step same of_host =
     let at = parts-of caller steps before later step a b same leads in
     let mid = stations_behind before a in

@@ -26,8 +26,8 @@ pub record MeetsNoFault (host : ℕ) (steps : List AtomicStep) (start : List Sta
 -- The outcome of each tick of a host follows from the counts and waiting frames at the start, changed by what happened
 -- before the tick. Of a delivery, only the frame follows, not its fate. `MeetsNoFault` must hold, and the host's driver
 -- may not write MDIC.
-abbrev pub TicksAreAnsweredByCounting : Type 0
-TicksAreAnsweredByCounting =
+abbrev pub OutcomesFollowFromCounts : Type 0
+OutcomesFollowFromCounts =
     (caller host : ℕ) (steps : List AtomicStep) (a b : List StationState) → LeadsTo caller steps a b
     → All IsCounted (past_at host steps).accesses → MeetsNoFault host steps a → AreAnswered host a steps
 

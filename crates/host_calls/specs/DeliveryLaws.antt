@@ -69,8 +69,11 @@ pub record PlaysCall (call : CallWithSteps) (a m b : List StationState) : Type 0
 pub record IsToldByOutcomes (ticks : List Tick) (first last : List AtomicStep) : Type 0 where
   -- The steps that aren't accesses are the ticks of the call except each Go, in order.
   pub played : without_go is_go (map tick_of (first ++ last)) ≡ without_go is_go ticks
+  -- The happenings that the outcomes report are those of the steps.
   pub said : tick_happenings ticks (noted_of 0 (first ++ last)) ≡ happened_in (first ++ last)
+  -- The number of accesses before each tick follows from the ticks and from the number of all accesses.
   pub numbered : numbers ticks 0 (counted_of 0 first) ≡ noted_numbers (noted_of 0 (first ++ last))
+  -- The steps `last` don't change the number of accesses.
   pub counted : counted_of 0 (first ++ last) ≡ counted_of 0 first
 
 -- `IsToldByOutcomes` holds for each call with its steps (`PlaysCall`).
@@ -93,8 +96,8 @@ LentCallsAreTold {O} g =
     (a m b : LentBus O g) (past : Past) (told : HappenedLent a m past) (finished : Finished m b) → a.accesses ≡ 0
     → IsToldCall a m b past told.steps finished.plays.steps
 
--- The happenings `said` are those of the ticks (`ticked`), with what the call itself did (`middle`) inserted at one
--- place.
+-- The happenings `said` are those of the ticks (`ticked`), with what the call itself did (`middle`) inserted between
+-- `before` and `behind`.
 pub record IsBetween (middle ticked said : List Happening) : Type 0 where
   pub before : List Happening
   pub behind : List Happening
@@ -162,8 +165,8 @@ OneTickLeads =
     (old new : List StationState) (tick : Tick) (outcome : FrameOutcome) (plays : PlaysTick old tick outcome new) → is_go tick ≡ false
     → LeadsAlone plays.step old new
 
--- What the atomic steps from the stations `a` to `b` do to the frames of host k: the happenings agree with the host's
--- record (`past_at`) and with the frames that wait.
+-- What the atomic steps from the stations `a` to `b` do to the frames of host k. The happenings agree with the past of
+-- the host's adapter (`past_at`), and with the frames that wait.
 pub record MovesFrames (k : ℕ) (steps : List AtomicStep) (a b : List StationState) : Type 0 where
   pub put : put k (happened_in steps) ≡ (past_at k steps).put
   pub stored : stored k (happened_in steps) ≡ (past_at k steps).stored
@@ -258,7 +261,8 @@ pub record ListsJoin (k : ℕ) (first later : List Happening) : Type 0 where
 abbrev pub DeliveriesJoin : Type 0
 DeliveriesJoin = (k : ℕ) (first later : List Happening) → ListsJoin k first later
 
--- The frames that other hosts put on a host's wire depend only on the wires of the hosts.
+-- If two maps from hosts to wires agree for each host, the same happenings put the same frames toward a host with both
+-- maps.
 abbrev pub WiresDecideToward : Type 0
 WiresDecideToward =
     (wires others : ℕ → Option ℕ) (k : ℕ) (happened : List Happening) → ((host : ℕ) → wires host ≡ others host)

@@ -3,24 +3,25 @@
 ghost use Rattle.host_calls.specs.AnswersLaws.{AbsentHostsAnswerNothing, CountsGoByOutcomes, FaultNeverComes};
 ghost use Rattle.host_calls.specs.AnswersLaws.{FaultNeverComesAroundReset, GoAnswersNothing, NoSlotIsOffered};
 ghost use Rattle.host_calls.specs.AnswersLaws.{OneIsTaken, ReceiveTailWritesAreCounted, SidesStayEnabled};
-ghost use Rattle.host_calls.specs.AnswersLaws.{TailsOfferSlots, TicksAreAnsweredByCounting};
+ghost use Rattle.host_calls.specs.AnswersLaws.{OutcomesFollowFromCounts, TailsOfferSlots};
 ghost use Rattle.host_calls.specs.AnswersLaws.{TransmitTailWritesAreCounted, WaitingFramesGoByOutcomes};
 
-/// The outcome of each tick of a host follows from the counts and the waiting frames at the start, even if an access
-/// resets the adapter.
-/// - `answers`: the outcome of a tick follows from the counts and the waiting frames at the start, changed by what
+/// The outcome of each tick of a host follows from the counts and the waiting frames at the start. The counts
+/// (`HostCounts`) are the head, tail and size of each ring, and the numbers of frames and bytes in the packet buffers.
+/// The counts also state what is enabled, in progress or pending. They don't determine what a write of MDIC does, so
+/// the laws exclude such writes of the host's driver.
+/// - `outcomes`: the outcome of a tick follows from the counts and the waiting frames at the start, changed by what
 ///   happened before the tick. Only the fate of a delivered frame doesn't follow. No engine of the host may be stopped
-///   at the start, no step may be a fault, and the host's driver may not write MDIC.
-/// - `counts`: the counts of the host at the end are those at the start, changed by all outcomes and accesses. The
-///   host's driver may not write MDIC.
+///   at the start, and no step may be a fault.
+/// - `counts`: the counts of the host at the end are those at the start, changed by all outcomes and accesses.
 /// - `waiting`: the frames that finally wait at a host's end of its wire are those at the start, changed by all
 ///   outcomes.
-/// - `faultless`: no engine is stopped at the start and no step is a fault, if two conditions are met. No access may
-///   reset the host's adapter, and no engine may be stopped at the end.
-/// - `around_reset`: `faultless` permits one access that resets the adapter, if no engine is stopped right before this
-///   access.
-pub fn ticks_are_answered_by_counting()
-    ensures answers { TicksAreAnsweredByCounting }
+/// - `faultless`: the condition of `outcomes` on engines and faults is met if no access resets the host's adapter, and
+///   no engine is stopped at the end.
+/// - `around_reset`: this condition is also met if one access resets the adapter, and no engine is stopped right before
+///   this access or at the end.
+pub fn outcomes_follow_from_counts()
+    ensures outcomes { OutcomesFollowFromCounts }
     ensures counts { CountsGoByOutcomes }
     ensures waiting { WaitingFramesGoByOutcomes }
     ensures faultless { FaultNeverComes }

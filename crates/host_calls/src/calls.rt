@@ -25,8 +25,9 @@ impl Network {
     /// Makes a call of host `number`, while ticks are played on all stations. The host must exist and be ready. The
     /// observer must have room for the outcome of each tick, including each `Go`.
     ///
-    /// A frame that a socket returns is copied to the front of `into`. The bytes of `into` after the frame don't
-    /// change; if no frame is returned, no byte changes. The call has the effect of its answer. No driver or socket of
+    /// A frame that a socket returns is copied to the front of `into`, and has 60 to 1,518 bytes (`legal`). The bytes
+    /// of `into` after the frame don't change; if no frame is returned, no byte changes (`rest`). The answer determines
+    /// what the call did to the host, and which accesses it made (`EffectOf`, in `MakesCall`). No driver or socket of
     /// another host changes; ticks may change all stations.
     #[inline(always)]
     pub fn call<O: Observer>(

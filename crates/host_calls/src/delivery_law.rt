@@ -25,21 +25,23 @@ pub fn outcomes_tell_steps()
     ensures leads { OneTickLeads }
 {}
 
-/// `call` of [`outcomes_tell_steps`] applies to each call over a lent bus after `finish`, if the bus counted no access
-/// before the call. The observer was told the outcome of each tick except each `Go`.
+/// Clause `call` of [`outcomes_tell_steps`] applies to a call over a lent bus together with the `finish` that follows
+/// it. The bus must have counted no access before the call. The observer was told the outcome of each tick of the call
+/// except each `Go`, and the bus counted the call's accesses.
 pub fn lent_calls_are_told<O: Observer>()
     ensures { LentCallsAreTold O.Observer }
 {}
 
-/// `tick_happenings_around` inserts what a call itself did into the happenings of the call's ticks.
-/// - `between`: the happenings of the ticks are the same, in the same order. What the call did is between two of these
-///   happenings, or before or after all of them.
+/// A happening is an entry of a network's history, such as a frame that was put on a wire (`specs/Happenings.antt`).
+/// `tick_happenings_around` inserts what a call itself did, such as a join, among the happenings of the call's ticks.
+/// - `between`: what the call did is inserted at one place, between two happenings of the ticks, or before or after all
+///   of them. The happenings of the ticks remain the same, in the same order.
 /// - `nothing`: if the call itself has no happening, the happenings of the call are those of its ticks.
 /// - `access`: if the call made exactly one access, what the call did is between the happenings before this access and
 ///   those after it.
 /// - `none`: if the call made no access, what the call did is after the happenings of all its ticks.
-/// - `numbers`: the outcomes whose numbers of accesses meet a condition determine what happened in the steps with such
-///   a number of earlier accesses.
+/// - `numbers`: take any condition on a number of accesses. The outcomes whose number meets this condition determine
+///   what happened in the steps with such a number of earlier accesses.
 pub fn calls_say_at_their_access()
     ensures between { CallsAreToldBetweenTicks }
     ensures nothing { OnlyTicksAreTold }
@@ -48,9 +50,10 @@ pub fn calls_say_at_their_access()
     ensures numbers { OutcomesTellByNumber }
 {}
 
-/// What atomic steps do to the frames of each host. The happenings contain exactly the frames that the host's adapter
-/// put and stored, and the number of frames that the adapter missed. The frames that waited at the host's end, followed
-/// by those put toward the host, have reached the host in this order or still wait. The number of hosts and their wires
+/// What atomic steps, which lead from one state of all stations to another, do to the frames of each host. Happenings
+/// are entries of the network's history. Those of the steps agree with the past of the host's adapter (`past_at`): the
+/// same frames were put and stored, and equally many were missed. The frames that waited at the host's end, followed by
+/// those put toward the host, have reached the host in this order or still wait. The number of hosts and their wires
 /// don't change, and no frame is accepted or returned.
 pub fn steps_move_frames()
     ensures { StepsMoveFrames }
@@ -72,26 +75,29 @@ pub fn fates_are_right()
     ensures filter { FilterStays }
 {}
 
-/// `ReceivesRightly` holds for a join or a leave: the filter except MTA, and the frames in the packet buffer, don't
-/// change.
-/// - `written`: `ReceivesRightly` holds for a join or a leave with a write of a word of MTA.
-/// - `alone`: `ReceivesRightly` holds for a join or a leave without an access.
+/// A join or a leave changes the joined groups, but not the frames in the packet buffer, nor the filter except MTA
+/// (`ReceivesRightly`).
+/// - `written`: this holds for a join or a leave that writes a word of MTA.
+/// - `alone`: this holds for a join or a leave without an access. A host makes no access if another joined group has
+///   the same bit of MTA.
 pub fn groups_change()
     ensures written { WritesChangeGroups }
     ensures alone { GroupsChangeAlone }
 {}
 
-/// Two consecutive lists of happenings join.
-/// - `lists`: each list of a host is its list for the first happenings, followed by its list for the later ones. The
-///   numbers of missed frames are added.
-/// - `toward`: the frames that other hosts put on a host's wire depend only on the wires of the hosts.
+/// Facts about two consecutive intervals hold for both together. Happenings are entries of the network's history.
+/// - `lists`: each list of a host, such as its accepted frames, is its list for the first happenings, followed by its
+///   list for the later ones. The numbers of missed frames are added.
+/// - `toward`: if two maps from hosts to wires agree for each host, the same happenings put the same frames toward a
+///   host with both maps. So the maps of two intervals with the same wires are interchangeable.
 /// - `waits`: the frames that reached a host, followed by those that wait, are those that waited at the start, followed
 ///   by those put toward the host. If this is true of each of two consecutive intervals, and wires don't change, it is
 ///   true of both together.
-/// - `fates`: if the fates of two lists of marks are right, those of the joined list are right. The second list must
-///   begin with the final reception of the first.
+/// - `fates`: marks are arrivals with their fates, moves to memory, joins, leaves, and what resets did to the receive
+///   side. If the fates in two lists of marks are right, those in the joined list are right. The groups, buffered
+///   frames and enable bit at the end of the first list must be those at the start of the second.
 /// - `receptions`: if `ReceivesRightly` holds in each of two consecutive intervals, it holds in both together.
-pub fn deliveries_join()
+pub fn consecutive_intervals_join()
     ensures lists { DeliveriesJoin }
     ensures toward { WiresDecideToward }
     ensures waits { WaitsJoin }
@@ -99,18 +105,20 @@ pub fn deliveries_join()
     ensures receptions { ReceptionsJoin }
 {}
 
-/// If all fates are right, each single fate is right. The right fate depends on the groups in force, the frames in the
-/// packet buffer, and whether the receive side is enabled at the arrival. The groups are those at the start,
-/// changed by each join and leave since. The frames are those at the start, followed by those stored since. Frames
-/// that were moved to memory, or that a reset dropped, are no longer in the buffer.
+/// If the fates of all frames are right in order (`AreRightFates`), the fate of each single frame is the right one
+/// (`AreRightByList`). The right fate depends on the groups in force, the frames in the packet buffer, and whether the
+/// receive side is enabled at the arrival. The groups are those at the start, changed by each join and leave since. The
+/// frames are those at the start, followed by those stored since. Frames that were moved to memory, or that a reset
+/// dropped, are no longer in the buffer.
 pub fn fates_are_judged_by_the_buffer()
     ensures { FatesAreJudgedByTheBuffer }
 {}
 
 /// Laws of lists of frames that grow at their end, and from whose end a reset removes frames.
 /// - `join`: two consecutive changes of a list are together one change.
-/// - `behind`: frames before the list at the beginning are still before the list at the end.
-/// - `one_end`: the beginning and the happenings determine the end.
+/// - `behind`: if further frames come before the list at the beginning, the same frames come before the list at the
+///   end, which is otherwise the same.
+/// - `one_end`: the list at the beginning and the happenings determine the list at the end.
 /// - `without`: if no frame is removed, the list at the end is exactly the list at the beginning, followed by all
 ///   frames that were added.
 /// - `padded`: the frames that are added to the frames due on a host's wire are the accepted frames, padded.

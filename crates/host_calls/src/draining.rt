@@ -33,8 +33,10 @@ fn first_waiting(host: &Host) -> Option<usize>
 
 impl Network {
     /// Drains a host: passes each frame that the host holds for its sockets to `sink`, and returns the number of steps.
-    /// No tick is played in the calls of the host. `CanBeDrained` must hold for the host. For a host with N receive
-    /// buffers, `sink` must have room for at least N + [`MOST_FRAMES`] (614) frames.
+    /// No tick is played in the calls of the host. The host must be ready with no forgotten work. Its receive ring must
+    /// be refilled, no slot may be staged, and RCTL.EN must be set (`CanBeDrained`). For a host with N receive buffers,
+    /// `sink` must have room for at least N + [`MOST_FRAMES`] (614) frames. Each frame uses at most one place of this
+    /// room (`left`).
     ///
     /// Each step is the first of these that applies. If a piece of a frame is in progress, the host's adapter writes
     /// back the descriptor of the piece. If the interrupt line is asserted, the host handles an interrupt. If a frame
@@ -58,10 +60,10 @@ impl Network {
         steps
     }
 
-    /// Takes the next step of a drain. Returns `false` if no step applies: then the host holds no frame for its
-    /// sockets. A frame that a socket returns is first copied to `bytes`, and then passed to `sink`. The sink must have
-    /// room for all frames that the host holds. To prove this (`room`), a caller may use that the adapter meets its
-    /// invariant before the call, which `adapter` also states.
+    /// Takes the next step of a drain: of the four kinds of step in the body, the first that applies. Returns `false`
+    /// if no step applies: then the host holds no frame for its sockets. A frame that a socket returns is first copied
+    /// to `bytes`, and then passed to `sink`. The sink must have room for all frames that the host holds. A proof of
+    /// this (`room`) may assume the invariant of the host's adapter. `adapter` states this invariant for callers.
     ///
     /// Only this host and its station change, and no end of a wire changes.
     fn step<S: FrameSink>(&mut self, number: usize, bytes: &mut [u8; 1518], sink: &mut S) -> bool
@@ -91,7 +93,8 @@ impl Network {
     }
 
     /// Takes the first kind of step: the adapter writes back the descriptor of the piece in progress. Returns `false`
-    /// if no piece was in progress before the call. No piece is in progress after it (`free`).
+    /// if no piece was in progress before the call. After the call, no piece is in progress (`free`).
+    /// - `adapter`: the invariant of the host's adapter before the call, for the proofs of callers.
     fn finish(&mut self, number: usize) -> bool
         requires there { number < length self.old.hosts }
         requires stands { CanBeDrained (nth_host self.old number) (world_at self.old.stations number) }
@@ -106,8 +109,8 @@ impl Network {
     }
 
     /// Takes the second kind of step: the host handles an interrupt, without ticks. The interrupt line must be asserted
-    /// (`asserted`), and no piece may be in progress. Only this host and its station change, and no end of a wire
-    /// changes.
+    /// (`asserted`), and no piece may be in progress (`free`). `bytes` doesn't change, because an interrupt returns no
+    /// frame. Only this host and its station change, and no end of a wire changes.
     fn handle(&mut self, number: usize, bytes: &mut [u8; 1518])
         requires there { number < length self.old.hosts }
         requires stands { CanBeDrained (nth_host self.old number) (world_at self.old.stations number) }
@@ -122,8 +125,8 @@ impl Network {
     }
 
     /// Takes the third kind of step: a socket returns its oldest frame, without ticks, and the frame is passed to the
-    /// sink. The frame is first copied to `bytes`. A frame must be queued for this socket, no piece may be in progress,
-    /// and the sink must have room for the frame.
+    /// sink. The frame is first copied to `bytes`. The socket must exist (`known`), and a frame must be queued for it
+    /// (`waits`). No piece may be in progress (`free`), and the sink must have room for the frame.
     fn give<S: FrameSink>(
         &mut self,
         number: usize,
@@ -153,7 +156,8 @@ impl Network {
 
     /// Takes the last kind of step: the adapter moves the next piece of the oldest frame in the receive packet buffer
     /// to memory. Returns `false` if this buffer is empty: then the host holds no frame for its sockets. No other kind
-    /// of step may apply: no piece is in progress, the interrupt line isn't asserted, and no frame is queued.
+    /// of step may apply: no piece is in progress (`free`), the interrupt line isn't asserted (`quiet`), and no frame
+    /// is queued (`given`).
     fn move_piece(&mut self, number: usize) -> bool
         requires there { number < length self.old.hosts }
         requires stands { CanBeDrained (nth_host self.old number) (world_at self.old.stations number) }
@@ -166,7 +170,8 @@ impl Network {
         ensures ends { result ≡ false → HoldsNothing (nth_host self.new number) (world_at self.new.stations number) }
         ensures hosts { self.new.hosts ≡ self.old.hosts }
     {
-        // The receive side is enabled and a slot is offered, so any other outcome is `Nothing`, for an empty buffer.
+        // The receive side is enabled and a slot is offered. So the outcome is `Part` or `Moved`, or `Nothing` if the
+        // buffer is empty.
         matches!(
             self.stations.step(number, StepKind::RxData),
             Outcome::Part | Outcome::Moved

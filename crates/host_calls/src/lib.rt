@@ -19,11 +19,9 @@ pub use resetting::{GivenUp, WasReset};
 mod answers_law;
 mod delivery_law;
 
-pub use answers_law::{
-    idle_ticks_answer_nothing, tails_offer_slots, ticks_are_answered_by_counting,
-};
+pub use answers_law::{idle_ticks_answer_nothing, outcomes_follow_from_counts, tails_offer_slots};
 pub use delivery_law::{
-    calls_say_at_their_access, deliveries_join, fates_are_judged_by_the_buffer, fates_are_right,
-    groups_change, lent_calls_are_told, lists_grow_and_shrink, outcomes_tell_steps,
-    steps_move_frames,
+    calls_say_at_their_access, consecutive_intervals_join, fates_are_judged_by_the_buffer,
+    fates_are_right, groups_change, lent_calls_are_told, lists_grow_and_shrink,
+    outcomes_tell_steps, steps_move_frames,
 };

@@ -132,8 +132,8 @@ impl Network {
         &self.stations
     }
 
-    /// Plays a tick outside a call. The observer is told the tick's outcome, with the number `accesses`, and must have
-    /// room for it. No driver or socket changes.
+    /// Plays a tick outside a call. The observer is told the tick's outcome, with `accesses` as the number of accesses
+    /// before the tick. The observer must have room for this outcome. No driver or socket changes.
     #[inline(always)]
     pub fn play<O: Observer>(&mut self, tick: Tick, accesses: u64, observer: &mut O)
         requires room { 0 < O.room_left observer.old }
@@ -144,15 +144,15 @@ impl Network {
         self.stations.play(tick, accesses, observer);
     }
 
-    /// Plays all ticks except each `Go`, in order, outside a call. The observer is told each outcome, with the number
-    /// `accesses`. The observer must have room for one outcome for each tick, including each `Go`. No driver or socket
-    /// changes.
-    pub fn play_rest<O: Observer>(&mut self, ticks: &[Tick], accesses: u64, observer: &mut O)
+    /// Plays all ticks except each `Go`, in order, such as the ticks of a call whose host doesn't exist. The observer
+    /// is told each outcome, with `accesses` as the number of the call's accesses before the tick. The observer must
+    /// have room for one outcome for each tick, including each `Go`. No driver or socket changes.
+    pub fn play_without_go<O: Observer>(&mut self, ticks: &[Tick], accesses: u64, observer: &mut O)
         requires room { length ticks.now ≤ O.room_left observer.old }
         ensures plays { PlaysTicks O.Observer (without_go is_go ticks.now) accesses
             (watched self.old.stations observer.old) (watched self.new.stations observer.new) }
         ensures hosts { self.new.hosts ≡ self.old.hosts }
     {
-        self.stations.play_rest(ticks, accesses, observer);
+        self.stations.play_without_go(ticks, accesses, observer);
     }
 }

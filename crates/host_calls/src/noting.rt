@@ -26,11 +26,12 @@ const BEFORE_RESET: u64 = 2;
 pub(crate) struct Noted {
     /// The number of the host that is reset.
     host: usize,
-    /// The greatest number of frames in `holding`.
+    /// The greatest number of frames in `holding`: no more frames fit into the receive ring and the packet buffer.
     most: usize,
     /// The number of frames that the host put before CTRL.RST was written; it saturates at the greatest `u64`.
     put: u64,
-    /// The frames that are held.
+    /// The frames that the host's adapter and receive ring hold: in finished slots, in the slot in progress, and in the
+    /// receive packet buffer. The oldest frame is the first.
     holding: Vec<Frame>,
 }
 
@@ -43,8 +44,8 @@ impl Model for Noted {
 }
 
 impl Noted {
-    /// Returns the notes before any tick. `holding` contains the frames held at the beginning, which must be at most
-    /// `most` frames, and must have room for `most` frames. Stored frames are appended to `holding` later.
+    /// Returns the notes before any tick. `holding` contains the frames held at the beginning, at most `most` frames.
+    /// This list must have room for `most` frames, because [`note`](Noted::note) appends stored frames.
     pub(crate) fn new(host: usize, most: usize, holding: Vec<Frame>) -> Noted
         requires room { most ≤ vec_capacity holding }
         requires fits { length holding.items ≤ most }
@@ -64,9 +65,9 @@ impl Noted {
         }
     }
 
-    /// Notes a tick, whose frame must have at most 1,518 bytes. Counts a frame that this host put after at most 2
-    /// accesses. Appends a frame that this host stored before the first access, if the list has fewer than `most`
-    /// frames.
+    /// Notes a tick, whose frame must have at most 1,518 bytes. Counts a frame that the reset host put after at most 2
+    /// accesses: the third access writes CTRL.RST. Appends a frame that this host stored before the first access, if
+    /// the list has fewer than `most` frames. The first access writes 0 to RCTL, so no frame is stored after it.
     fn note(&mut self, tick: Tick, accesses: u64, outcome: Outcome<()>, frame: &[u8])
         requires fits { length frame.now ≤ longest_frame }
         ensures { NotesTicks self.old self.new (tick_told tick accesses (with_frame frame.now outcome) ∷ []) }
@@ -94,7 +95,7 @@ impl Noted {
     }
 }
 
-/// Returns whether a tick is a step or a delivery at this host.
+/// Returns whether a tick is a step or a delivery at this host; `false` for `Go`.
 fn is_of_host(host: usize, tick: Tick) -> bool
     ensures { result ≡ notes.is_of_host host tick }
 {

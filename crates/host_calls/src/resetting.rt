@@ -69,22 +69,22 @@ impl Network {
     {
         let host = &self.hosts[number];
         let layout = host.layout();
-        // At most one frame is held in each slot of the receive ring, and `MOST_FRAMES` in the receive packet buffer.
+        // At most one frame is held for each slot of the receive ring, and `MOST_FRAMES` in the receive packet buffer.
+        // At most one frame is to be sent for each slot of the transmit ring.
         let most = usize::from(layout.rx()) + usize::from(MOST_FRAMES);
         let mut sending = Vec::new(alloc);
         sending.reserve(usize::from(layout.tx()))?;
         let mut holding = Vec::new(alloc);
         holding.reserve(most)?;
         self.stations
-            .pending(number, host.oldest(), &mut sending, &mut holding);
-        // The list has this room already, but the contract of `pending` doesn't state this.
-        holding.reserve(most - holding.len())?;
+            .pending(number, host.oldest_receive(), &mut sending, &mut holding);
         Ok(GivenUp { sending, holding })
     }
 
     /// Resets the adapter of host `number`, while ticks are played on all stations. Returns the frames that were lost,
-    /// and numbers of accesses. `found` must be the result of [`before_reset`](Network::before_reset) in this state.
-    /// The observer must have room for the outcome of each tick, including each `Go`.
+    /// the number of accesses until the receiver was enabled (`on_after`), and the number of all accesses. `found` must
+    /// be the result of [`before_reset`](Network::before_reset) in this state. The observer must have room for the
+    /// outcome of each tick, including each `Go`.
     ///
     /// The call allocates no memory. No driver or socket of another host changes; ticks may change all stations.
     pub fn reset<O: Observer>(
@@ -111,10 +111,13 @@ impl Network {
             holding,
         } = found;
         let rx = self.hosts[number].layout().rx();
+        // `before_reset` made room for this number of held frames.
         let most = usize::from(rx) + usize::from(MOST_FRAMES);
         let mut noted = Noted::new(number, most, holding);
         let accesses = self.reset_noting(number, ticks, observer, &mut noted);
+        // `holding` now also contains the frames that were stored before the receiver was disabled.
         let (put, holding) = noted.into_parts();
+        // The frames that were put before CTRL.RST was written aren't lost. They were the oldest to be sent.
         drop_first(&mut sending, put);
         WasReset {
             given_up: GivenUp { sending, holding },
@@ -123,8 +126,8 @@ impl Network {
         }
     }
 
-    /// Resets the adapter of host `number`, while ticks are played. Each outcome of a tick is told to `observer` and
-    /// noted in `noted`. Returns the number of accesses.
+    /// Resets the adapter of host `number`, while ticks are played on all stations. Each outcome of a tick is told to
+    /// `observer` and noted in `noted`. Returns the number of accesses.
     fn reset_noting<O: Observer>(
         &mut self,
         number: usize,
@@ -144,8 +147,9 @@ impl Network {
         self.reset_over(number, ticks, &mut noting)
     }
 
-    /// Resets the adapter of host `number`, while ticks are played. Each outcome of a tick is told to `noting`. Returns
-    /// the number of accesses. `noting` still refers to the same observer and the same notes after the call (`keeps`).
+    /// Resets the adapter of host `number`, while ticks are played on all stations. Each outcome of a tick is told to
+    /// `noting`. Returns the number of accesses. After the call, `noting` still refers to the same observer and the
+    /// same notes (`keeps`).
     fn reset_over<O: Observer>(
         &mut self,
         number: usize,
@@ -156,6 +160,7 @@ impl Network {
         requires ready { HostReady (nth_host self.old number) (world_at self.old.stations number) }
         requires ticks { length ticks.now ≤ O.room_left noting.old.observer.now }
         ensures keeps { KeepsReferences noting.old noting.new }
+        // `HostReady` repeats the precondition `ready`.
         ensures runs { HostReady (nth_host self.old number) (world_at self.old.stations number)
             → RunsReset (played_call number ticks.now (TellsAndNotes O.heard noting.old noting.new) result)
             (connected_at self.old number) (connected_at self.new number) }

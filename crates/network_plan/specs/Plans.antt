@@ -6,7 +6,7 @@ use Rattle.std.specs.declared.alloc.Global.{Global}
 use Rattle.registers.specs.Image.{address_bytes}
 use Rattle.registers.specs.declared.phy.Link.TheVariants.{After}
 use Rattle.rx_engine.specs.Addresses.{IsIndividual}
-use Rattle.bring_up.specs.Configuration.{CanBeHad}
+use Rattle.bring_up.specs.Configuration.{IsValidIn}
 use Rattle.network_plan.specs.declared.plan.HostPlan.{HostPlan}
 use Rattle.network_plan.specs.declared.plan_error.PlanError.{PlanError}
 use Rattle.network_plan.specs.declared.plan_error.PlanError.TheVariants as refused
@@ -83,26 +83,26 @@ pub record HasHosts (hosts : List HostPlan) : Type 0 where
   pub most : length hosts ≤ most_hosts
 
 -- If the two hosts have the same address, they have the same name. With unique names, they are the same host.
-abbrev pub IsSameIfAddressed : (host other : HostPlan) → Type 0
-IsSameIfAddressed host other = address_bytes other.image ≡ address_bytes host.image → string_eq other.name host.name ≡ true
+abbrev pub HasOtherAddressOrIsSame : (host other : HostPlan) → Type 0
+HasOtherAddressOrIsSame host other = address_bytes other.image ≡ address_bytes host.image → string_eq other.name host.name ≡ true
 
 -- The host's address is an individual address, and no host with another name has the same address.
-pub record HasAddress (hosts : List HostPlan) (host : HostPlan) : Type 0 where
+pub record HasOwnAddress (hosts : List HostPlan) (host : HostPlan) : Type 0 where
   -- the host's address isn't a group address
   pub individual : IsIndividual (address_bytes host.image)
   -- no host with another name has the same address
-  pub own : All (IsSameIfAddressed host) hosts
+  pub own : All (HasOtherAddressOrIsSame host) hosts
 
 -- Each host has an individual address that no host with another name has.
-pub record HasAddresses (hosts : List HostPlan) : Type 0 where
+pub record HaveOwnAddresses (hosts : List HostPlan) : Type 0 where
   -- each host has an individual address that no host with another name has
-  pub all : All (HasAddress hosts) hosts
+  pub all : All (HasOwnAddress hosts) hosts
 
 -- The host's configuration is valid for a memory of 2^64 - 1 bytes, and its link needs at least one PHY tick, or is
 -- never up.
 pub record HasConfig (host : HostPlan) : Type 0 where
   -- the rings, buffers, packet buffer, groups and VLANs of the configuration are valid for this memory
-  pub config : CanBeHad host.config (2 ^ 64 - 1)
+  pub config : IsValidIn host.config (2 ^ 64 - 1)
   -- the host's link needs at least one PHY tick, or is never up
   pub link : host.link ≢ After 0
 
@@ -116,9 +116,9 @@ abbrev pub IsPlanAnswer : List HostPlan → Result (Unit {0}) PlanError → Type
 IsPlanAnswer hosts (Err refused.Name) = ¬ (HasNames hosts)
 IsPlanAnswer hosts (Err refused.Ends) = HasNames hosts × (¬ (HasEnds hosts))
 IsPlanAnswer hosts (Err refused.Hosts) = HasNames hosts × HasEnds hosts × (¬ (HasHosts hosts))
-IsPlanAnswer hosts (Err refused.Address) = HasNames hosts × HasEnds hosts × HasHosts hosts × (¬ (HasAddresses hosts))
+IsPlanAnswer hosts (Err refused.Address) = HasNames hosts × HasEnds hosts × HasHosts hosts × (¬ (HaveOwnAddresses hosts))
 IsPlanAnswer hosts (Err refused.Config) =
-    HasNames hosts × HasEnds hosts × HasHosts hosts × HasAddresses hosts × (¬ (HasConfigs hosts))
+    HasNames hosts × HasEnds hosts × HasHosts hosts × HaveOwnAddresses hosts × (¬ (HasConfigs hosts))
 IsPlanAnswer hosts (Err refused.Memory) = ⊥
 IsPlanAnswer hosts (Err (refused.Init host error)) = ⊥
-IsPlanAnswer hosts (Ok u) = HasNames hosts × HasEnds hosts × HasHosts hosts × HasAddresses hosts × HasConfigs hosts
+IsPlanAnswer hosts (Ok u) = HasNames hosts × HasEnds hosts × HasHosts hosts × HaveOwnAddresses hosts × HasConfigs hosts

@@ -1,8 +1,9 @@
 // The plan of a network, and the check of a plan.
 
 ghost use Rattle.std.specs.Prelude.{◌≡◌, ◌↔◌, IsTrue};
-ghost use Rattle.network_plan.specs.Plans.{HasAddress, HasAddresses, HasConfigs, HasEnds, HasName, HasNames};
-ghost use Rattle.network_plan.specs.Plans.{HasWire, IsName, IsPlanAnswer, IsSameIfAddressed, hosts_named, hosts_on};
+ghost use Rattle.network_plan.specs.Plans.{HasOwnAddress, HaveOwnAddresses, HasConfigs, HasEnds, HasName, HasNames};
+ghost use Rattle.network_plan.specs.Plans.{HasOtherAddressOrIsSame, HasWire, IsName, IsPlanAnswer, hosts_named};
+ghost use Rattle.network_plan.specs.Plans.{hosts_on};
 
 use crate::plan_error::PlanError;
 use arrayvec::ArrayVec;
@@ -71,7 +72,7 @@ impl Plan {
         if hosts.len() < 2 || hosts.len() > MOST_HOSTS {
             return Err(PlanError::Hosts);
         }
-        if !have_addresses(hosts) {
+        if !have_own_addresses(hosts) {
             return Err(PlanError::Address);
         }
         if !have_configs(hosts) {
@@ -148,30 +149,35 @@ fn have_ends(hosts: &[HostPlan]) -> bool
     true
 }
 
-/// Returns whether two hosts have different addresses, or the same name.
-fn is_same_if_addressed(host: &HostPlan, other: &HostPlan) -> bool
-    ensures { IsTrue result ↔ IsSameIfAddressed host.now other.now }
+/// Returns whether two hosts have different addresses, or the same name. Names are unique, so hosts with the same name
+/// are the same host: [`has_own_address`] compares a host also with itself.
+fn has_other_address_or_is_same(host: &HostPlan, other: &HostPlan) -> bool
+    ensures { IsTrue result ↔ HasOtherAddressOrIsSame host.now other.now }
 {
     other.image.address() != host.image.address() || other.name == host.name
 }
 
 /// Returns whether a host's address is an individual address, and no host with another name has the same address. An
 /// individual address has the low bit of its first byte clear (IEEE 802.3, 3.2.3).
-fn has_address(hosts: &[HostPlan], host: &HostPlan) -> bool
-    ensures { IsTrue result ↔ HasAddress hosts.now host.now }
+fn has_own_address(hosts: &[HostPlan], host: &HostPlan) -> bool
+    ensures { IsTrue result ↔ HasOwnAddress hosts.now host.now }
 {
-    host.image.address()[0] % 2 == 0 && hosts.iter().all(|other| is_same_if_addressed(host, other))
+    host.image.address()[0] % 2 == 0
+        && hosts
+            .iter()
+            .all(|other| has_other_address_or_is_same(host, other))
 }
 
 /// Returns whether each host's address is an individual address, and no host with another name has the same address.
-fn have_addresses(hosts: &[HostPlan]) -> bool
-    ensures { IsTrue result ↔ HasAddresses hosts.now }
+fn have_own_addresses(hosts: &[HostPlan]) -> bool
+    ensures { IsTrue result ↔ HaveOwnAddresses hosts.now }
 {
-    hosts.iter().all(|host| has_address(hosts, host))
+    hosts.iter().all(|host| has_own_address(hosts, host))
 }
 
 /// Returns whether each host's configuration is valid in a memory of `u64::MAX` bytes, and each host's link needs at
-/// least one PHY tick or is never up.
+/// least one PHY tick or is never up. A network allocates a memory of the size that the configuration needs, so the
+/// check assumes the greatest size.
 fn have_configs(hosts: &[HostPlan]) -> bool
     ensures { IsTrue result ↔ HasConfigs hosts.now }
 {

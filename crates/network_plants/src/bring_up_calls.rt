@@ -5,7 +5,7 @@ ghost use Rattle.std.specs.Prelude.{◌≡◌, ◌≤◌, ◌<◌, ◌+◌, ◌*
 ghost use Rattle.dma_memory.specs.Layout.{descriptor_bytes};
 ghost use Rattle.rx_engine.specs.NumberTables.{HasNumbers, numbers_of_groups};
 ghost use Rattle.bring_up.specs.ClearedDescriptors.{clears_from};
-ghost use Rattle.bring_up.specs.Configuration.{CanBeHad};
+ghost use Rattle.bring_up.specs.Configuration.{IsValidIn};
 ghost use Rattle.bring_up.specs.Device.{FindsDevice};
 ghost use Rattle.bring_up.specs.EepromReading.{ReadsImage};
 ghost use Rattle.bring_up.specs.Link.{AwaitsLink};
@@ -78,7 +78,7 @@ pub fn group_table(groups: &[[u8; 6]]) -> [u32; TABLE_WORDS]
 
 /// A twin of [`Config::layout`].
 pub fn layout(config: &Config, size: u64) -> Result<Layout, InitError>
-    ensures ok { IsOk result ↔ CanBeHad config.now size }
+    ensures ok { IsOk result ↔ IsValidIn config.now size }
 {
     config.layout(size)
 }

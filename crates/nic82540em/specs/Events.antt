@@ -8,7 +8,7 @@ use Rattle.access_names.specs.declared.engine_fault.Reason.TheVariants.{Ring, De
 use Rattle.nic82540em.specs.Numbers.{fate_number, outcome_number}
 use Rattle.nic82540em.specs.declared.events.Events.{Events}
 use Rattle.nic82540em.specs.declared.events.KeptEvent.{KeptEvent}
-use Rattle.played_adapter.specs.Told.{Told, Accessed, Arrived, Line, Noted, Offered, Stepped}
+use Rattle.played_adapter.specs.Told.{Told, Accessed, Arrived, Line, Noted, OfferedArrived, Stepped}
 
 -- the number of a kind of steps
 abbrev pub kind_number : StepKind → ℕ
@@ -46,7 +46,7 @@ abbrev pub event_of : Told → Option KeptEvent
 event_of (Stepped kind outcome fault) =
     if outcome_number outcome == 0 then None else Some (step_event (kind_number kind) (outcome_number outcome) fault)
 event_of (Arrived frame fate) = Some (other_event 1 (fate_number fate))
-event_of (Offered frame fate) = Some (other_event 1 (fate_number fate))
+event_of (OfferedArrived frame fate) = Some (other_event 1 (fate_number fate))
 event_of (Accessed access) = None
 event_of (Noted action) = None
 event_of (Line level) = Some (other_event 2 (if level then 1 else 0))

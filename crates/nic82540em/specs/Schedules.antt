@@ -27,8 +27,8 @@ pub record PlaysMoves (next : List Move) (agenda : AgendaState) (a b : WatchedAd
   -- `agenda` is the agenda after the moves
   pub agenda_is : b.agenda ≡ Some agenda
 
--- The schedule, if there is one, meets an access of a target with this name. The default steps before the access are played, and then the
--- actions that are due. Without a schedule, nothing happens.
+-- The schedule, if there is one, meets an access of a target with this name: the default steps before the access are played, and then the
+-- actions that are due, and the agenda counts the access. Without a schedule, nothing happens.
 abbrev pub MeetsName : Before → (name : Text) → Option AgendaState → WatchedAdapter → WatchedAdapter → Type 0
 MeetsName before name (Some agenda) a b = PlaysMoves (moves.access_moves before name agenda a.player) (moves.met before name agenda) a b
 MeetsName before name None a b = b ≡ a
@@ -52,8 +52,8 @@ pub record AfterMeeting (comes : Bool) (before : Before) (target : Target) (Happ
   -- then this happens
   pub happens : Happens met b
 
--- The schedule, if there is one, meets a request with this first word, which begins a round. The actions that are due are played. Without a
--- schedule, nothing happens.
+-- The schedule, if there is one, meets a request with this first word, which begins a round: the actions that are due are played, and the
+-- agenda counts the request. Without a schedule, nothing happens.
 abbrev pub Begins : (word : Text) → Option AgendaState → WatchedAdapter → WatchedAdapter → Type 0
 Begins word (Some agenda) a b = PlaysMoves (moves.request_moves Request word agenda) (moves.met Request word agenda) a b
 Begins word None a b = b ≡ a
@@ -80,7 +80,7 @@ abbrev pub number_chosen : Option AgendaState → ℕ
 number_chosen (Some agenda) = chosen (moves.due_in_agenda Choice (codes "choose") agenda)
 number_chosen None = 0
 
--- the schedule, if there is one, after it met a request `choose`
+-- the agenda of the schedule, if there is one, after it counted a request `choose`
 abbrev pub after_choice : Option AgendaState → Option AgendaState
 after_choice agenda = option_map (moves.met Choice (codes "choose")) agenda
 

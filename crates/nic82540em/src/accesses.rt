@@ -10,7 +10,10 @@ use crate::calls;
 use crate::handle::{Nic, on_adapter};
 use std::alloc::Global;
 
-/// Reads the register at an offset in bytes. Returns 0 if no register is at this offset.
+/// Reads the register at an offset in bytes. This is an access of the driver: steps may be played before it, and cycles
+/// after it.
+///
+/// Returns 0 if no register is at this offset, or if the handle holds no adapter.
 #[unsafe(no_mangle)]
 pub extern "C" fn nic82540em_read(alloc: Global, nic: &mut Nic, offset: u32) -> u32
     requires sound { IsSound nic.old }
@@ -19,7 +22,8 @@ pub extern "C" fn nic82540em_read(alloc: Global, nic: &mut Nic, offset: u32) -> 
     on_adapter!(alloc, nic, 0, calls::read, offset)
 }
 
-/// Writes the register at an offset in bytes. The write does nothing if no register is at this offset.
+/// Writes the register at an offset in bytes. This is an access, as in [`nic82540em_read`], also at an offset without a
+/// register. There, the write itself changes nothing. If the handle holds no adapter, nothing happens.
 #[unsafe(no_mangle)]
 pub extern "C" fn nic82540em_write(alloc: Global, nic: &mut Nic, offset: u32, value: u32)
     requires sound { IsSound nic.old }
@@ -28,8 +32,11 @@ pub extern "C" fn nic82540em_write(alloc: Global, nic: &mut Nic, offset: u32, va
     on_adapter!(alloc, nic, (), calls::write, offset, value)
 }
 
-/// Loads the bytes from an address on into the whole of `into`. Returns `false`, and changes nothing, if some of the
-/// bytes are outside memory.
+/// Loads the bytes from an address on into the whole of `into`, and returns `true`. This is an access, as in
+/// [`nic82540em_read`].
+///
+/// Returns `false`, and changes nothing, if `address` plus the length of `into` is above the size of memory, or if the
+/// handle holds no adapter.
 #[unsafe(no_mangle)]
 pub extern "C" fn nic82540em_load(
     alloc: Global,
@@ -44,8 +51,10 @@ pub extern "C" fn nic82540em_load(
     on_adapter!(alloc, nic, false, calls::load, address, into)
 }
 
-/// Stores bytes in memory from an address on. Returns `false`, and changes nothing, if some bytes would be outside
-/// memory.
+/// Stores bytes in memory from an address on, and returns `true`. This is an access, as in [`nic82540em_read`].
+///
+/// Returns `false`, and changes nothing, if `address` plus the number of bytes is above the size of memory, or if the
+/// handle holds no adapter.
 #[unsafe(no_mangle)]
 pub extern "C" fn nic82540em_store(alloc: Global, nic: &mut Nic, address: u64, bytes: &[u8]) -> bool
     requires sound { IsSound nic.old }
@@ -54,7 +63,8 @@ pub extern "C" fn nic82540em_store(alloc: Global, nic: &mut Nic, address: u64, b
     on_adapter!(alloc, nic, false, calls::store, address, bytes)
 }
 
-/// Returns the number of accesses so far, up to the greatest `u64`. [`nic82540em_recount`] sets this number.
+/// Returns the number of accesses so far, up to the greatest `u64`. This is also the number of the next access, which
+/// [`nic82540em_recount`] sets. Returns 0 if the handle holds no adapter.
 #[unsafe(no_mangle)]
 pub extern "C" fn nic82540em_accesses(alloc: Global, nic: &mut Nic) -> u64
     requires sound { IsSound nic.old }
@@ -63,7 +73,8 @@ pub extern "C" fn nic82540em_accesses(alloc: Global, nic: &mut Nic) -> u64
     on_adapter!(alloc, nic, 0, |adapter| adapter.player.accesses)
 }
 
-/// Sets the number of accesses so far.
+/// Sets the number of accesses so far, which is the number of the next access. Does nothing if the handle holds no
+/// adapter.
 #[unsafe(no_mangle)]
 pub extern "C" fn nic82540em_recount(alloc: Global, nic: &mut Nic, accesses: u64)
     requires sound { IsSound nic.old }
@@ -73,7 +84,7 @@ pub extern "C" fn nic82540em_recount(alloc: Global, nic: &mut Nic, accesses: u64
 }
 
 /// Stores the address of the first byte of memory in `into`, if memory isn't empty. Returns the size of memory in
-/// bytes.
+/// bytes. If the handle holds no adapter, stores nothing and returns 0.
 #[unsafe(no_mangle)]
 pub extern "C" fn nic82540em_memory(alloc: Global, nic: &mut Nic, into: &mut *const u8) -> u64
     requires sound { IsSound nic.old }

@@ -43,8 +43,8 @@ fn image_of(options: &AdapterOptions) -> Image
     }
 }
 
-/// Returns a new adapter with the EEPROM of the options and this link. PBA was written with the kilobytes of the
-/// options, and MPC has the count of missed packets of the options.
+/// Returns a new adapter with the EEPROM of the options and this link. PBA was written with the options' kilobytes, the
+/// value of RXA, and MPC has the options' count of missed packets. Fails only if memory is refused.
 fn adapter_of(alloc: Global, options: &AdapterOptions, link: Link) -> Result<Adapter, AllocError>
     ensures { IfOk result (λ adapter. adapter ≡ adapter_with_options options.now link) }
 {
@@ -54,7 +54,8 @@ fn adapter_of(alloc: Global, options: &AdapterOptions, link: Link) -> Result<Ada
     Ok(adapter)
 }
 
-/// Returns a new adapter of the options with this link and with memory of zeros.
+/// Returns a new adapter of the options with this link, with memory of zeros and an empty wire. Fails only if memory is
+/// refused.
 fn player_of(
     alloc: Global,
     options: &AdapterOptions,
@@ -67,8 +68,8 @@ fn player_of(
     PlayedAdapter::new(alloc, adapter, memory)
 }
 
-/// Returns a new adapter with this link and with memory of zeros, in a box. The adapter's events are off, and it plays
-/// no schedule.
+/// Returns a new adapter of the options with this link and with memory of zeros, in a box. The adapter's events are
+/// off, and it plays no schedule. Fails only if memory is refused.
 fn with_link(
     alloc: Global,
     options: &AdapterOptions,
@@ -86,10 +87,10 @@ fn with_link(
     Ok(Box::new(alloc, adapter)?)
 }
 
-/// Returns a new adapter with memory of zeros and an empty wire, in a box. No step is played before an access, and
-/// events are off.
+/// Returns a new adapter of the options, with memory of zeros and an empty wire, in a box. No step is played before an
+/// access, and events are off.
 ///
-/// Returns `None` if a number of the options is out of range, or if memory is refused.
+/// Returns `None` if `link` or `receive_kilobytes` of the options is out of range, or if memory is refused.
 pub(crate) fn new(alloc: Global, options: &AdapterOptions) -> Option<Box<WatchedAdapter>>
     ensures { IfSome result (λ made. IsNew options.now made.value) }
 {
@@ -106,7 +107,8 @@ fn follow(watched: &mut WatchedAdapter, is_made: bool, most: u16)
     ensures { HeardByEvents (Follows (is_made && nat_lt 0 most)) watched.old watched.new }
 {
     if is_made && most > 0 {
-        // This is still the same maximum: accesses and arrivals don't change it.
+        // Accesses and arrivals don't change the maximum, so this is `most`. The contract needs no proof of this: it
+        // compares the maximum before with 0, and plays up to the maximum afterwards.
         let most = u32::from(watched.player.pace);
         watched.player.settle(most, &mut watched.events);
     }
@@ -126,18 +128,22 @@ fn is_plain(watched: &WatchedAdapter) -> bool
     is_quiet && watched.agenda.is_none() && player.pace == 0 && !watched.events.on
 }
 
-/// Reads the register at an offset in bytes, after the steps before the access. Then plays the cycles after it.
+/// Reads the register at an offset in bytes, and returns its value, or 0 if no register is at this offset.
+///
+/// Before the access, plays the schedule's default steps and due actions, the ticks, the scheduled steps and the drawn
+/// steps, if there are any. After the access, plays cycles, up to the maximum of `pace`.
 #[inline(always)]
 pub(crate) fn read(watched: &mut WatchedAdapter, offset: u32) -> u32
     ensures { AccessAnswered (Reads offset result) watched.old watched.new }
 {
+    // A plain access has neither steps nor cycles, and no event of it is kept.
     if is_plain(watched) {
         return watched.player.read(offset, &mut Nobody);
     }
     meet_and_read(watched, offset)
 }
 
-/// Writes the register at an offset in bytes, after the steps before the access. Then plays the cycles after it.
+/// Writes the register at an offset in bytes. Plays steps before the access and cycles after it, as [`read`].
 #[inline(always)]
 pub(crate) fn write(watched: &mut WatchedAdapter, offset: u32, value: u32)
     ensures { AccessAnswered (Writes offset value) watched.old watched.new }
@@ -149,8 +155,9 @@ pub(crate) fn write(watched: &mut WatchedAdapter, offset: u32, value: u32)
     meet_and_write(watched, offset, value);
 }
 
-/// Loads the bytes from an address on into `into`, after the steps before the access. Then plays the cycles after it,
-/// and returns `true`. If some of the bytes are outside memory, returns `false` and changes nothing.
+/// Loads the bytes from an address on into `into`, and returns `true`. Plays steps before the access and cycles after
+/// it, as [`read`]. If `address` plus the length of `into` is above the size of memory, returns `false` and changes
+/// nothing.
 #[inline(always)]
 pub(crate) fn load(watched: &mut WatchedAdapter, address: u64, into: &mut [u8]) -> bool
     ensures { LoadAnswered address into.old into.new result watched.old watched.new }
@@ -161,8 +168,8 @@ pub(crate) fn load(watched: &mut WatchedAdapter, address: u64, into: &mut [u8]) 
     meet_and_load(watched, address, into)
 }
 
-/// Stores bytes from an address on, after the steps before the access. Then plays the cycles after it, and returns
-/// `true`. If some bytes would be outside memory, returns `false` and changes nothing.
+/// Stores bytes from an address on, and returns `true`. Plays steps before the access and cycles after it, as [`read`].
+/// If `address` plus the number of bytes is above the size of memory, returns `false` and changes nothing.
 #[inline(always)]
 pub(crate) fn store(watched: &mut WatchedAdapter, address: u64, bytes: &[u8]) -> bool
     ensures { StoreAnswered address bytes.now result watched.old watched.new }
@@ -173,7 +180,8 @@ pub(crate) fn store(watched: &mut WatchedAdapter, address: u64, bytes: &[u8]) ->
     meet_and_store(watched, address, bytes)
 }
 
-/// As [`read`], without the test whether the access is plain.
+/// Does what [`read`] does, without the test whether the access is plain. Not inlined, so that the code of a plain
+/// access is short.
 #[inline(never)]
 fn meet_and_read(watched: &mut WatchedAdapter, offset: u32) -> u32
     ensures { AccessAnswered (Reads offset result) watched.old watched.new }
@@ -185,7 +193,8 @@ fn meet_and_read(watched: &mut WatchedAdapter, offset: u32) -> u32
     value
 }
 
-/// As [`write`], without the test whether the access is plain.
+/// Does what [`write`] does, without the test whether the access is plain. Not inlined, so that the code of a plain
+/// access is short.
 #[inline(never)]
 fn meet_and_write(watched: &mut WatchedAdapter, offset: u32, value: u32)
     ensures { AccessAnswered (Writes offset value) watched.old watched.new }
@@ -196,7 +205,8 @@ fn meet_and_write(watched: &mut WatchedAdapter, offset: u32, value: u32)
     follow(watched, true, most);
 }
 
-/// As [`load`], without the test whether the access is plain.
+/// Does what [`load`] does, without the test whether the access is plain. Not inlined, so that the code of a plain
+/// access is short.
 #[inline(never)]
 fn meet_and_load(watched: &mut WatchedAdapter, address: u64, into: &mut [u8]) -> bool
     ensures { LoadAnswered address into.old into.new result watched.old watched.new }
@@ -208,7 +218,8 @@ fn meet_and_load(watched: &mut WatchedAdapter, address: u64, into: &mut [u8]) ->
     is_made
 }
 
-/// As [`store`], without the test whether the access is plain.
+/// Does what [`store`] does, without the test whether the access is plain. Not inlined, so that the code of a plain
+/// access is short.
 #[inline(never)]
 fn meet_and_store(watched: &mut WatchedAdapter, address: u64, bytes: &[u8]) -> bool
     ensures { StoreAnswered address bytes.now result watched.old watched.new }
@@ -220,8 +231,8 @@ fn meet_and_store(watched: &mut WatchedAdapter, address: u64, bytes: &[u8]) -> b
     is_made
 }
 
-/// Delivers all offered frames, and then plays cycles until one does nothing, up to `MOST_CYCLES` of `played_adapter`.
-/// Returns the number of steps of the cycles that did something.
+/// Delivers all offered frames, and then plays cycles, each with one step of each kind, until a cycle does nothing. The
+/// maximum number of cycles is `played_adapter::MOST_CYCLES`. Returns the number of steps that did something.
 pub(crate) fn settle(watched: &mut WatchedAdapter) -> u64
     ensures { SettlesOffered result watched.old watched.new }
 {
@@ -240,8 +251,8 @@ pub(crate) fn step(watched: &mut WatchedAdapter, number: u32) -> u32
     }
 }
 
-/// Delivers a frame to the adapter, and then plays cycles, up to the maximum of `pace`. Returns the number of the
-/// frame's fate.
+/// Delivers a frame to the adapter, and then plays cycles until one does nothing, up to the maximum of `pace`. Returns
+/// the number of the frame's fate.
 pub(crate) fn arrive(watched: &mut WatchedAdapter, frame: &[u8]) -> u32
     ensures { AnswersArrival frame.now result watched.old watched.new }
 {
@@ -251,16 +262,17 @@ pub(crate) fn arrive(watched: &mut WatchedAdapter, frame: &[u8]) -> u32
     fate_number(fate)
 }
 
-/// Adds a copy of a frame to the offered frames.
+/// Adds a copy of a frame to the end of the list of offered frames, and returns `true`. An offered frame arrives later.
 ///
 /// If memory is refused, returns `false` and changes nothing.
 pub(crate) fn offer(alloc: Global, watched: &mut WatchedAdapter, frame: &[u8]) -> bool
     ensures { AnswersOffer frame.now result watched.old watched.new }
 {
-    watched.player.offered.try_push(alloc, frame).is_ok()
+    watched.player.offered.push(alloc, frame).is_ok()
 }
 
-/// Adds a step of the kind with this number to the end of the list of scheduled steps.
+/// Adds a step of the kind with this number to the end of the list of scheduled steps, and returns `true`. The step is
+/// played before the next access with a number of at least `access`, after all steps added before.
 ///
 /// If no kind has this number, or 4,096 steps wait, returns `false` and changes nothing.
 pub(crate) fn schedule(watched: &mut WatchedAdapter, access: u64, number: u32) -> bool
@@ -273,7 +285,7 @@ pub(crate) fn schedule(watched: &mut WatchedAdapter, access: u64, number: u32) -
 }
 
 /// From now on, up to `count` steps and arrivals of offered frames are played before each access. A generator with this
-/// seed draws them. While a schedule is played, no steps are drawn.
+/// seed draws them. While a schedule is played, nothing is drawn, and only the generator is set. Returns `true`.
 ///
 /// If `count` is above 65,535, returns `false` and changes nothing.
 pub(crate) fn interleave(watched: &mut WatchedAdapter, count: u32, seed: u64) -> bool
@@ -292,6 +304,7 @@ pub(crate) fn interleave(watched: &mut WatchedAdapter, count: u32, seed: u64) ->
 }
 
 /// From now on, cycles are played after each access and each call of [`arrive`] until one does nothing, up to `count`.
+/// Returns `true`.
 ///
 /// If `count` is above 65,535, returns `false` and changes nothing.
 pub(crate) fn pace(watched: &mut WatchedAdapter, count: u32) -> bool
@@ -304,10 +317,11 @@ pub(crate) fn pace(watched: &mut WatchedAdapter, count: u32) -> bool
     true
 }
 
-/// Returns a number below `limit`, or 0 if `limit` is 0. The schedule, if there is one, meets a request `choose`.
+/// Returns a number below `limit`, or 0 if `limit` is 0.
 ///
 /// If steps are drawn before accesses, the generator draws the number. Otherwise it is the number that the schedule's
-/// first due action chooses. If this number isn't below `limit`, or no action is due, the number is 0.
+/// first due action chooses. If this number isn't below `limit`, or no action is due, the number is 0. The schedule, if
+/// there is one, counts the call as a request `choose`.
 pub(crate) fn choose(watched: &mut WatchedAdapter, limit: u32) -> u32
     ensures done { Chooses limit result watched.old watched.new }
     ensures below { 0 < limit → result < limit }
@@ -319,7 +333,7 @@ pub(crate) fn choose(watched: &mut WatchedAdapter, limit: u32) -> u32
 }
 
 /// Returns a digest of the adapter's registers, its PHY, the frames in its packet buffers and its work in progress.
-/// Adapters with the same state have equal digests for each seed.
+/// Adapters with the same state have equal digests for each seed. Two seeds make a digest of 128 bits.
 #[tactic(auto, unfolding(crate::specs::Digests::state_digest_of))]
 pub(crate) fn state_digest(watched: &WatchedAdapter, seed: u64) -> u64
     ensures { result ≡ state_digest_of seed watched.now.player.machine.world.adapter }
@@ -330,7 +344,7 @@ pub(crate) fn state_digest(watched: &WatchedAdapter, seed: u64) -> u64
     hasher.finish()
 }
 
-/// Removes the oldest event, and stores it in `into`.
+/// Removes the oldest event, stores it in `into`, and returns `true`.
 ///
 /// If no event waits, returns `false` and changes nothing.
 pub(crate) fn take_event(watched: &mut WatchedAdapter, into: &mut KeptEvent) -> bool
@@ -343,7 +357,7 @@ pub(crate) fn take_event(watched: &mut WatchedAdapter, into: &mut KeptEvent) -> 
     true
 }
 
-/// Returns a copy of the adapter, its events and its schedule, in a box.
+/// Does what [`copy`] does, but returns an error if memory is refused.
 fn copied(alloc: Global, watched: &WatchedAdapter) -> Result<Box<WatchedAdapter>, AllocError>
     ensures { IfOk result (λ copy. IsWatchedCopy watched.now copy.value) }
 {

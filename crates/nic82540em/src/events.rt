@@ -37,7 +37,11 @@ pub struct Events {
 }
 
 impl Events {
-    /// Returns an empty list of events, to which new events aren't added.
+    /// Returns an empty list of events, with room for 4,096. New events aren't added to it, because `on` is false.
+    ///
+    /// # Errors
+    ///
+    /// Returns an error only if an allocation fails.
     pub(crate) fn new(alloc: Global) -> Result<Events, AllocError>
         ensures { IfOk result (λ events. events ≡ no_events) }
     {
@@ -48,6 +52,10 @@ impl Events {
     }
 
     /// Returns a copy: the same events wait, and new events are kept if and only if they are kept here.
+    ///
+    /// # Errors
+    ///
+    /// Returns an error only if an allocation fails.
     pub(crate) fn copy(&self) -> Result<Events, AllocError>
         ensures { IfOk result (λ copy. copy ≡ self.now) }
     {

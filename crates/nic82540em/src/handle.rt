@@ -12,7 +12,9 @@ pub struct Nic {
 }
 
 /// The result of a call on the adapter of a handle, or `$none` if the handle holds no adapter. The call is
-/// `$call(&mut adapter, $argument ..)`, or an expression after the adapter's name.
+/// `$call(&mut adapter, $argument ..)`, or an expression after the adapter's name. During the call, the adapter's box
+/// is outside of the handle, whose owner is then empty, with the allocator `$alloc`. `Global` has no bytes, so C passes
+/// no argument for `alloc`.
 macro_rules! on_adapter {
     ($alloc:ident, $nic:ident, $none:expr, $call:path $(, $argument:expr)*) => {
         on_adapter!($alloc, $nic, $none, |adapter| $call(&mut adapter $(, $argument)*))

@@ -44,7 +44,7 @@ pub use playing::{
 use std::alloc::Global;
 pub use watched::WatchedAdapter;
 
-/// Makes a new adapter in a handle that holds no adapter, and returns `true`.
+/// Makes a new adapter of these options in a handle that holds no adapter, and returns `true`.
 ///
 /// Returns `false`, and changes nothing, if the handle holds an adapter, an option is out of range, or memory is
 /// refused.
@@ -84,6 +84,7 @@ pub extern "C" fn nic82540em_free(alloc: Global, nic: &mut Nic)
 }
 
 /// Copies the adapter of `nic`, with its events and its schedule, into the handle `into`, which holds no adapter.
+/// Returns `true`. The adapter of `nic` doesn't change.
 ///
 /// Returns `false`, and changes nothing, if `nic` holds no adapter, if `into` holds one, or if memory is refused.
 #[unsafe(no_mangle)]
@@ -101,6 +102,7 @@ pub extern "C" fn nic82540em_copy(alloc: Global, nic: &mut Nic, into: &mut Nic) 
     if !nic.held || into.held {
         return false;
     }
+    // To be read, the adapter is taken out of its handle, and put back.
     let adapter = nic.owner.take(alloc);
     let copied = calls::copy(alloc, &adapter);
     nic.owner.put(adapter);

@@ -22,8 +22,8 @@ pub extern "C" fn nic82540em_line(alloc: Global, nic: &mut Nic) -> bool
     on_adapter!(alloc, nic, false, |adapter| adapter.player.machine.line())
 }
 
-/// Stores in `into` the value that a read of the register at an offset would return now. Returns `true`. This isn't an
-/// access, and changes nothing in the adapter.
+/// Stores in `into` the value that a read of the register at an offset would return now, and returns `true`. This isn't
+/// an access, and changes nothing in the adapter. If the handle holds no adapter, stores nothing and returns `false`.
 #[unsafe(no_mangle)]
 pub extern "C" fn nic82540em_peek(alloc: Global, nic: &mut Nic, offset: u32, into: &mut u32) -> bool
     requires sound { IsSound nic.old }
@@ -38,7 +38,7 @@ pub extern "C" fn nic82540em_peek(alloc: Global, nic: &mut Nic, offset: u32, int
 }
 
 /// Returns the kinds of steps that have something to do. Bit `n` is set if and only if a step of the kind with number
-/// `n` would have another outcome than `Nothing`.
+/// `n` would have another outcome than `Nothing`. Returns 0 if the handle holds no adapter.
 #[unsafe(no_mangle)]
 pub extern "C" fn nic82540em_possible(alloc: Global, nic: &mut Nic) -> u32
     requires sound { IsSound nic.old }
@@ -47,7 +47,7 @@ pub extern "C" fn nic82540em_possible(alloc: Global, nic: &mut Nic) -> u32
     on_adapter!(alloc, nic, 0, |adapter| possible::possible(&adapter))
 }
 
-/// Returns the number of frames in the receive packet buffer.
+/// Returns the number of frames in the receive packet buffer, or 0 if the handle holds no adapter.
 #[unsafe(no_mangle)]
 pub extern "C" fn nic82540em_waiting_received(alloc: Global, nic: &mut Nic) -> u32
     requires sound { IsSound nic.old }
@@ -63,6 +63,7 @@ pub extern "C" fn nic82540em_waiting_received(alloc: Global, nic: &mut Nic) -> u
 }
 
 /// Returns the number of frames in the transmit packet buffer: frames that were fetched and aren't on the wire yet.
+/// Returns 0 if the handle holds no adapter.
 #[unsafe(no_mangle)]
 pub extern "C" fn nic82540em_waiting_transmit(alloc: Global, nic: &mut Nic) -> u32
     requires sound { IsSound nic.old }
@@ -77,8 +78,9 @@ pub extern "C" fn nic82540em_waiting_transmit(alloc: Global, nic: &mut Nic) -> u
     )
 }
 
-/// Returns a digest of the adapter and its host's memory. The digest doesn't cover the EEPROM's words, the wire,
-/// offered frames, events, the schedule, the steps before accesses, or the number of accesses.
+/// Returns a digest of the adapter and its host's memory, or 0 if the handle holds no adapter. The digest doesn't cover
+/// the EEPROM's words, the wire, offered frames, events, the schedule, or the number of accesses. Nor does it cover
+/// which steps are played before and after accesses.
 #[unsafe(no_mangle)]
 pub extern "C" fn nic82540em_digest(alloc: Global, nic: &mut Nic) -> u64
     requires sound { IsSound nic.old }
@@ -90,7 +92,7 @@ pub extern "C" fn nic82540em_digest(alloc: Global, nic: &mut Nic) -> u64
 
 /// Returns a digest of the adapter's registers, of the frames in its packet buffers, and of its work in progress.
 /// Adapters with the same state have equal digests for each seed. The digest covers neither memory nor what
-/// [`nic82540em_digest`] omits.
+/// [`nic82540em_digest`] omits. Returns 0 if the handle holds no adapter.
 #[unsafe(no_mangle)]
 pub extern "C" fn nic82540em_state_digest(alloc: Global, nic: &mut Nic, seed: u64) -> u64
     requires sound { IsSound nic.old }

@@ -5,7 +5,7 @@ use adapter::{Fate, Outcome, StepKind};
 use played_adapter::Observer;
 use step_schedules::Action;
 
-/// The observer of an access of which no event is kept: it is told what happens, and does nothing.
+/// The observer of an access of which no event is kept: each of its methods does nothing.
 #[derive(Clone, Copy)]
 pub(crate) struct Nobody;
 
@@ -29,7 +29,7 @@ impl Observer for Nobody {
 
     fn arrived(&mut self, _frame: &[u8], _fate: Fate) {}
 
-    fn offered(&mut self, _frame: &[u8], _fate: Fate) {}
+    fn offered_arrived(&mut self, _frame: &[u8], _fate: Fate) {}
 
     fn read(&mut self, _offset: u32, _value: u32) {}
 

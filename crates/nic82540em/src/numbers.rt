@@ -36,7 +36,8 @@ pub struct AdapterOptions {
     pub image: [u16; WORDS],
 }
 
-/// Returns the setting of a link that is up after this number of ticks, or never for 0. Returns `None` above 65,535.
+/// Returns the setting of a link that is up after this number of ticks of the PHY. For 0, the link is never up. Returns
+/// `None` if the number is above 65,535.
 pub(crate) fn link_with(number: u32) -> Option<Link>
     ensures { result ≡ numbers.link_with number }
 {
@@ -49,7 +50,7 @@ pub(crate) fn link_with(number: u32) -> Option<Link>
     Some(Link::After(number as u16))
 }
 
-/// Returns whether PBA.RXA may have this value: an even number from 2 to 48.
+/// Returns whether PBA.RXA may have this value: an even number of kilobytes from 2 to 48.
 pub(crate) fn is_receive_share(kilobytes: u32) -> bool
     ensures { result ≡ numbers.is_receive_share kilobytes }
 {
@@ -71,7 +72,7 @@ pub(crate) fn kind_with(number: u32) -> Option<StepKind>
     })
 }
 
-/// Returns the number of a kind of steps.
+/// Returns the number of a kind of steps, by which [`kind_with`] finds the kind.
 pub(crate) fn kind_number(kind: StepKind) -> u32
     ensures { result ≡ events.kind_number kind }
 {
@@ -85,7 +86,7 @@ pub(crate) fn kind_number(kind: StepKind) -> u32
     }
 }
 
-/// Returns the number of the reason of a fault.
+/// Returns the number of the reason of a fault. The number 0 means that there is no fault.
 pub(crate) fn reason_number(reason: Reason) -> u32
     ensures { result ≡ events.reason_number reason }
 {
@@ -114,6 +115,7 @@ pub(crate) fn outcome_number(outcome: Outcome<()>) -> u32
         Outcome::Done => 6,
         Outcome::Ticked => 7,
         Outcome::Fault => 8,
+        // No step has this outcome, so C never gets 9.
         Outcome::Delivered(_, _) => 9,
     }
 }

@@ -38,10 +38,11 @@ impl Owner {
         ensures value { result.value ≡ self.old.value }
         ensures empty { self.new.full ≡ false }
     {
+        // `into_parts` consumes the full owner, so an empty owner replaces it here.
         replace(self, Owner::empty(alloc)).into_parts().into_box()
     }
 
-    /// Puts an adapter into an empty owner.
+    /// Puts an adapter into an empty owner, which is full afterwards.
     pub(crate) fn put(&mut self, adapter: Box<WatchedAdapter>)
         requires { self.old.full ≡ false }
         ensures full { self.new.full ≡ true }
@@ -62,7 +63,7 @@ impl Owner {
         }
     }
 
-    /// Returns the allocator of an empty owner.
+    /// Consumes an empty owner, and returns its allocator.
     fn into_alloc(self) -> Global
         requires { self.full ≡ false }
         ensures { result ≡ self.alloc }
@@ -82,7 +83,7 @@ impl Owner {
         }
     }
 
-    /// Returns the parts of the box of a full owner.
+    /// Consumes a full owner, and returns the parts of its box.
     fn into_parts(self) -> Parts<WatchedAdapter, Global>
         requires { self.full ≡ true }
         ensures { result.value ≡ self.value }

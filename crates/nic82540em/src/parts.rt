@@ -21,7 +21,7 @@ impl<T, A: Allocator> Model for Parts<T, A> {
 }
 
 impl<T, A: Allocator> Parts<T, A> {
-    /// Splits a box into its parts.
+    /// Splits a box into its parts. The value isn't dropped.
     pub fn of(b: Box<T, A>) -> Parts<T, A>
     where
         T: Drop,
@@ -36,6 +36,7 @@ impl<T, A: Allocator> Parts<T, A> {
         ensures { result.value ≡ self.value }
     {
         let Parts { ptr, alloc } = self;
+        // This is safe because the parts own the value, which `alloc` allocated.
         unsafe { Box::from_raw(alloc, ptr) }
     }
 }

@@ -15,7 +15,7 @@ use crate::{calls, schedules};
 use std::alloc::Global;
 
 /// Makes the adapter take a step of the kind with this number. Returns the number of the outcome, or `0xFFFFFFFF` if no
-/// kind has this number.
+/// kind has this number or the handle holds no adapter.
 #[unsafe(no_mangle)]
 pub extern "C" fn nic82540em_step(alloc: Global, nic: &mut Nic, number: u32) -> u32
     requires sound { IsSound nic.old }
@@ -24,8 +24,9 @@ pub extern "C" fn nic82540em_step(alloc: Global, nic: &mut Nic, number: u32) -> 
     on_adapter!(alloc, nic, REFUSED, calls::step, number)
 }
 
-/// Delivers all offered frames, and then plays cycles until one does nothing, up to `MOST_CYCLES` of `played_adapter`.
-/// Returns the number of steps of the cycles that did something.
+/// Delivers all offered frames, and then plays cycles, each with one step of each kind, until a cycle does nothing. The
+/// maximum number of cycles is `played_adapter::MOST_CYCLES`. Returns the number of steps that did something, or 0 if
+/// the handle holds no adapter.
 #[unsafe(no_mangle)]
 pub extern "C" fn nic82540em_settle(alloc: Global, nic: &mut Nic) -> u64
     requires sound { IsSound nic.old }
@@ -35,7 +36,7 @@ pub extern "C" fn nic82540em_settle(alloc: Global, nic: &mut Nic) -> u64
 }
 
 /// Delivers a frame to the adapter, and then plays cycles until one does nothing, up to the maximum of
-/// [`nic82540em_pace`]. Returns the number of the frame's fate.
+/// [`nic82540em_pace`]. Returns the number of the frame's fate, or `0xFFFFFFFF` if the handle holds no adapter.
 #[unsafe(no_mangle)]
 pub extern "C" fn nic82540em_arrive(alloc: Global, nic: &mut Nic, frame: &[u8]) -> u32
     requires sound { IsSound nic.old }
@@ -45,7 +46,7 @@ pub extern "C" fn nic82540em_arrive(alloc: Global, nic: &mut Nic, frame: &[u8]) 
 }
 
 /// Moves the oldest frame from the wire to the beginning of `into`, if the frame fits. Returns the frame's length in
-/// bytes, also if the frame doesn't fit, or 0 if no frame waits.
+/// bytes, also if the frame doesn't fit. Returns 0 if no frame waits, or if the handle holds no adapter.
 #[unsafe(no_mangle)]
 pub extern "C" fn nic82540em_take_put(alloc: Global, nic: &mut Nic, into: &mut [u8]) -> usize
     requires sound { IsSound nic.old }
@@ -56,8 +57,10 @@ pub extern "C" fn nic82540em_take_put(alloc: Global, nic: &mut Nic, into: &mut [
 }
 
 /// From now on, up to `count` steps and arrivals of offered frames are played before each access. A generator with this
-/// seed draws them. While a schedule of [`nic82540em_play`](crate::nic82540em_play) is played, no steps are drawn.
-/// Returns `false`, and changes nothing, if `count` is above 65,535.
+/// seed draws them. While a schedule of [`nic82540em_play`](crate::nic82540em_play) is played, nothing is drawn, and
+/// only the generator is set. Returns `true`.
+///
+/// Returns `false`, and changes nothing, if `count` is above 65,535, or if the handle holds no adapter.
 #[unsafe(no_mangle)]
 pub extern "C" fn nic82540em_interleave(alloc: Global, nic: &mut Nic, count: u32, seed: u64) -> bool
     requires sound { IsSound nic.old }
@@ -67,7 +70,9 @@ pub extern "C" fn nic82540em_interleave(alloc: Global, nic: &mut Nic, count: u32
 }
 
 /// From now on, cycles are played after each access and each call of [`nic82540em_arrive`] until one does nothing, up
-/// to `count`. Returns `false`, and changes nothing, if `count` is above 65,535.
+/// to `count`. Returns `true`.
+///
+/// Returns `false`, and changes nothing, if `count` is above 65,535, or if the handle holds no adapter.
 #[unsafe(no_mangle)]
 pub extern "C" fn nic82540em_pace(alloc: Global, nic: &mut Nic, count: u32) -> bool
     requires sound { IsSound nic.old }
@@ -76,11 +81,11 @@ pub extern "C" fn nic82540em_pace(alloc: Global, nic: &mut Nic, count: u32) -> b
     on_adapter!(alloc, nic, false, calls::pace, count)
 }
 
-/// Returns a number below `limit`, or 0 if `limit` is 0.
+/// Returns a number below `limit`, or 0 if `limit` is 0 or the handle holds no adapter.
 ///
 /// If steps are drawn before accesses, the generator draws the number. Otherwise it is the number that the first due
 /// action in the schedule of [`nic82540em_play`](crate::nic82540em_play) chooses. If this number isn't below `limit`,
-/// or no action is due, the number is 0.
+/// or no action is due, the number is 0. The schedule counts the call as a request `choose`.
 #[unsafe(no_mangle)]
 pub extern "C" fn nic82540em_choose(alloc: Global, nic: &mut Nic, limit: u32) -> u32
     requires sound { IsSound nic.old }
@@ -93,7 +98,10 @@ pub extern "C" fn nic82540em_choose(alloc: Global, nic: &mut Nic, limit: u32) ->
 /// Adds a step of the kind with this number to the end of the list of scheduled steps.
 ///
 /// The step is played before the next access with a number of at least `access`, after all steps added before. Returns
-/// `false`, and changes nothing, if no kind has this number, or if 4,096 steps wait.
+/// `true`.
+///
+/// Returns `false`, and changes nothing, if no kind has this number, if 4,096 steps wait, or if the handle holds no
+/// adapter.
 #[unsafe(no_mangle)]
 pub extern "C" fn nic82540em_schedule(
     alloc: Global,
@@ -107,7 +115,8 @@ pub extern "C" fn nic82540em_schedule(
     on_adapter!(alloc, nic, false, calls::schedule, access, number)
 }
 
-/// Sets whether a step of the EEPROM and one of the PHY are played before each later access.
+/// Sets whether a step of the EEPROM and one of the PHY are played before each later access. Does nothing if the handle
+/// holds no adapter.
 #[unsafe(no_mangle)]
 pub extern "C" fn nic82540em_ticks(alloc: Global, nic: &mut Nic, on: bool)
     requires sound { IsSound nic.old }
@@ -116,7 +125,8 @@ pub extern "C" fn nic82540em_ticks(alloc: Global, nic: &mut Nic, on: bool)
     on_adapter!(alloc, nic, (), |adapter| adapter.player.ticks = on)
 }
 
-/// Sets whether later events are kept. The events that wait aren't removed.
+/// Sets whether later events are kept. The events that wait aren't removed. Does nothing if the handle holds no
+/// adapter.
 #[unsafe(no_mangle)]
 pub extern "C" fn nic82540em_events(alloc: Global, nic: &mut Nic, on: bool)
     requires sound { IsSound nic.old }
@@ -125,7 +135,9 @@ pub extern "C" fn nic82540em_events(alloc: Global, nic: &mut Nic, on: bool)
     on_adapter!(alloc, nic, (), |adapter| adapter.events.on = on)
 }
 
-/// Removes the oldest event, and stores it in `into`. Returns `false`, and changes nothing, if no event waits.
+/// Removes the oldest event, stores it in `into`, and returns `true`.
+///
+/// Returns `false`, and changes nothing, if no event waits, or if the handle holds no adapter.
 #[unsafe(no_mangle)]
 pub extern "C" fn nic82540em_take_event(alloc: Global, nic: &mut Nic, into: &mut KeptEvent) -> bool
     requires sound { IsSound nic.old }
@@ -135,11 +147,11 @@ pub extern "C" fn nic82540em_take_event(alloc: Global, nic: &mut Nic, into: &mut
     on_adapter!(alloc, nic, false, calls::take_event, into)
 }
 
-/// Adds a copy of a frame to the offered frames.
+/// Adds a copy of a frame to the end of the list of offered frames, and returns `true`.
 ///
 /// The generator or a schedule may choose the frame's arrival before a later access, and a schedule also before a
 /// request. Otherwise the frame arrives in the next [`nic82540em_settle`]. Returns `false`, and changes nothing, if
-/// memory is refused.
+/// memory is refused, or if the handle holds no adapter.
 #[unsafe(no_mangle)]
 pub extern "C" fn nic82540em_offer(alloc: Global, nic: &mut Nic, frame: &[u8]) -> bool
     requires sound { IsSound nic.old }
@@ -153,7 +165,8 @@ pub extern "C" fn nic82540em_offer(alloc: Global, nic: &mut Nic, frame: &[u8]) -
     )
 }
 
-/// Sets whether the wire is full. While the wire is full, no frame is put on it, even if fewer than 64 frames wait.
+/// Sets whether the caller fills the wire. While `full` is set, no frame is put on the wire, even if fewer than 64
+/// frames wait there. Otherwise frames are put on the wire until 64 wait. Does nothing if the handle holds no adapter.
 #[unsafe(no_mangle)]
 pub extern "C" fn nic82540em_fill_wire(alloc: Global, nic: &mut Nic, full: bool)
     requires sound { IsSound nic.old }
@@ -165,8 +178,8 @@ pub extern "C" fn nic82540em_fill_wire(alloc: Global, nic: &mut Nic, full: bool)
 /// From now on, plays the schedule in a text instead of an earlier schedule, and draws no steps before accesses.
 ///
 /// Returns 0 if this schedule is played. If a line is faulty, returns the number of the first faulty line and changes
-/// nothing. Returns `0xFFFFFFFF` and changes nothing if the text isn't UTF-8, memory is refused, or the line's number
-/// is above `0xFFFFFFFE`.
+/// nothing. Returns `0xFFFFFFFF` and changes nothing if the text isn't UTF-8, memory is refused, the line's number is
+/// above `0xFFFFFFFE`, or the handle holds no adapter.
 #[unsafe(no_mangle)]
 pub extern "C" fn nic82540em_play(alloc: Global, nic: &mut Nic, text: &[u8]) -> u32
     requires sound { IsSound nic.old }
@@ -184,7 +197,7 @@ pub extern "C" fn nic82540em_play(alloc: Global, nic: &mut Nic, text: &[u8]) -> 
 /// 3 `settle`.
 ///
 /// Plays the actions of the schedule, if there is one, that are due before the request, and returns `true`. If no
-/// request has this number, returns `false` and changes nothing.
+/// request has this number, or the handle holds no adapter, returns `false` and changes nothing.
 #[unsafe(no_mangle)]
 pub extern "C" fn nic82540em_begin_round(alloc: Global, nic: &mut Nic, number: u32) -> bool
     requires sound { IsSound nic.old }

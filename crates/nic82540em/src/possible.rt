@@ -6,9 +6,11 @@ ghost use Rattle.nic82540em.specs.Calls.{TellsPossible, AnswersWork, bit_if};
 use crate::watched::WatchedAdapter;
 use adapter::StepKind;
 
-/// Returns `value` if `is_set` is true, else 0.
+/// Returns `value`, the value of one bit of a mask, if `is_set` is true, else 0.
 fn bit_if(is_set: bool, value: u32) -> u32
     ensures bit { result ≡ bit_if is_set value }
+
+    // By this bound, the sum in `possible` doesn't overflow.
     ensures fits { result ≤ value }
 {
     if is_set { value } else { 0 }
@@ -17,6 +19,8 @@ fn bit_if(is_set: bool, value: u32) -> u32
 /// Returns `value` if a step of this kind has something to do, else 0.
 fn bit_of(watched: &WatchedAdapter, kind: StepKind, value: u32) -> u32
     ensures bit { AnswersWork kind value result watched.now }
+
+    // By this bound, the sum in `possible` doesn't overflow.
     ensures fits { result ≤ value }
 {
     bit_if(watched.player.machine.has_work(kind), value)

@@ -12,8 +12,8 @@ use access_names::{Target, memory_target};
 use std::alloc::Global;
 use step_schedules::{Agenda, Before, Schedule, ScheduleError};
 
-/// Makes the schedule, if there is one, meet an access of this target. Plays the default steps before the access, and
-/// then the actions that are due.
+/// Plays what the schedule, if there is one, has before an access of this target: the default steps, and then the
+/// actions that are due. The agenda counts the access. `before` is the kind of the access: `Read` or `Write`.
 pub(crate) fn meet(watched: &mut WatchedAdapter, before: Before, target: Target)
     ensures { Meets before target watched.old watched.new }
 {
@@ -26,8 +26,8 @@ pub(crate) fn meet(watched: &mut WatchedAdapter, before: Before, target: Target)
         .meet_access(agenda, before, name.as_slice(), &mut watched.events);
 }
 
-/// As [`meet`], for an access of `count` bytes in memory from `address` on. Changes nothing if memory doesn't contain
-/// all of these bytes.
+/// As [`meet`], for an access of `count` bytes in memory from `address` on. Changes nothing if `address + count` is
+/// above the size of memory, because such an access is refused.
 pub(crate) fn meet_memory(watched: &mut WatchedAdapter, before: Before, address: u64, count: u64)
     ensures { MeetsIf (has_bytes watched.old.player address count) before
         (memory_target_in watched.old.player.machine.world.adapter address) watched.old watched.new }
@@ -39,7 +39,9 @@ pub(crate) fn meet_memory(watched: &mut WatchedAdapter, before: Before, address:
     meet(watched, before, target);
 }
 
-/// Makes the schedule, if there is one, meet a request `choose`. Returns the number in the schedule that is due, or 0.
+/// Answers a request `choose` by the schedule: returns the number that the first action due before the request chooses.
+/// Returns 0 if this action chooses no number, no action is due, or there is no schedule. The agenda counts the
+/// request.
 pub(crate) fn meet_choice(agenda: &mut Option<Agenda>) -> u32
     ensures number { result ≡ number_chosen agenda.old }
     ensures met { agenda.new ≡ after_choice agenda.old }
@@ -48,12 +50,14 @@ pub(crate) fn meet_choice(agenda: &mut Option<Agenda>) -> u32
         return 0;
     };
     let event = agenda.coming(Before::Choice, b"choose");
+    // After the count, the action is no longer due.
     let number = agenda.chosen(&event);
     agenda.count(&event);
     number
 }
 
-/// Returns the first word of the request with this number, or `None` if no request has the number.
+/// Returns the first word of the request with this number, or `None` if no request has the number. Schedules name
+/// requests by this word.
 fn request_word(number: u32) -> Option<&'static str>
     ensures some { IfSome result (λ word. request_word number ≡ Some word.now) }
     ensures none { result ≡ None → request_word number ≡ None }
@@ -67,10 +71,10 @@ fn request_word(number: u32) -> Option<&'static str>
     }
 }
 
-/// Makes the schedule, if there is one, meet the request with this number, which begins a round. Plays the actions that
-/// are due.
+/// Plays the actions of the schedule, if there is one, that are due before the request with this number. The agenda
+/// counts the request, which begins a round. Returns `true`.
 ///
-/// If no request has this number, returns `false` and changes nothing. Otherwise returns `true`.
+/// If no request has this number, returns `false` and changes nothing.
 pub(crate) fn begin_round(watched: &mut WatchedAdapter, number: u32) -> bool
     ensures { RoundAnswered number result watched.old watched.new }
 {
@@ -89,14 +93,15 @@ pub(crate) fn begin_round(watched: &mut WatchedAdapter, number: u32) -> bool
     true
 }
 
-/// Returns the number of an error: the number of the faulty line if it is from 1 to 0xFFFFFFFE, else [`REFUSED`].
+/// Returns the number by which [`play`] reports an error: the number of the faulty line if it is from 1 to 0xFFFFFFFE.
+/// Otherwise, or if no line is faulty, returns [`REFUSED`].
 fn error_number(error: ScheduleError) -> u32
     ensures { result ≡ error_number error }
 {
     let ScheduleError::Line { line, .. } = error else {
         return REFUSED;
     };
-    // The number 0 would mean that the schedule is played.
+    // The result 0 would mean that the schedule is played. A number above `REFUSED` doesn't fit into 32 bits.
     if line > 0 && line < REFUSED as usize {
         line as u32
     } else {
@@ -118,8 +123,8 @@ fn agenda_in(alloc: Global, text: &[u8]) -> Result<Agenda, ScheduleError>
 
 /// From now on, plays the schedule in a text instead of an earlier schedule, and draws no steps before accesses.
 ///
-/// Returns 0 if this schedule is played. If the text isn't a schedule, or memory is refused, returns the number of the
-/// error and changes nothing.
+/// Returns 0 if this schedule is played. If the text isn't a schedule, or memory is refused, returns the error's number
+/// (`error_number`) and changes nothing.
 pub(crate) fn play(alloc: Global, watched: &mut WatchedAdapter, text: &[u8]) -> u32
     ensures { AnswersPlay text.now result watched.old watched.new }
 {

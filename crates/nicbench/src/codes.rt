@@ -9,10 +9,11 @@ pub(crate) struct Code {
     pub(crate) label: &'static str,
     /// The exit status: 4 if memory was refused, 3 if a file or a stream can't be used, 1 for every other fault.
     pub(crate) status: u8,
-    /// The meaning, and what a user can do. IN means the input.
+    /// The meaning, and what a user can do. `IN` is a placeholder for the path of the input.
     pub(crate) text: &'static str,
 }
 
+/// The text of a code is its label, such as `E57 Memory`.
 impl Display for Code {
     fn fmt<W: fmt::Write>(&self, f: &mut fmt::Formatter<W>) -> fmt::Result {
         f.write_str(self.label)

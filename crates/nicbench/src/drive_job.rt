@@ -10,7 +10,7 @@ use program_files::{create, read_file_trace};
 use std::alloc::AllocError;
 use std::io::{self, BufReader};
 
-/// The limit of turns in a row without a frame ([`DriveLimits`]), if `--idle` isn't given.
+/// The number of turns in a row without a frame, after which a drive ends ([`DriveLimits`]), if `--idle` isn't given.
 const IDLE: u64 = 1_000;
 
 /// Returns the rings and buffers of the driver, from the job.
@@ -22,7 +22,7 @@ fn rings_of(job: &DriveJob<'_>) -> DriveRings {
     }
 }
 
-/// Returns the limits of the drive, from the job.
+/// Returns the limits of the drive, from the job. Without `--idle`, the limit of turns is [`IDLE`].
 fn limits_of(job: &DriveJob<'_>) -> DriveLimits {
     DriveLimits {
         expect: job.expect,
@@ -30,8 +30,9 @@ fn limits_of(job: &DriveJob<'_>) -> DriveLimits {
     }
 }
 
-/// Sends frames to the adapter, and writes the received frames to `sink`. Writes requests to standard output, and reads
-/// their answers from standard input. The sink must have failed fewer than 2^64 - 1 times.
+/// Runs the driver on the adapter of another program: writes requests to standard output, and reads their answers from
+/// standard input. The driver sends these frames, and the frames that it receives are written to `sink`. The sink must
+/// have failed fewer than 2^64 - 1 times.
 fn drive_adapter<S: Sink>(
     rt: &HostRuntime,
     job: &DriveJob<'_>,
@@ -57,8 +58,9 @@ fn drive_adapter<S: Sink>(
     }
 }
 
-/// Writes the counts of a drive of this number of frames to standard error, because the requests are on standard
-/// output. Fails (E69) if not all frames were passed to the driver, or fewer frames than expected were received.
+/// Writes the counts of a drive to standard error, because the requests are on standard output. The line ends with
+/// `exact` if it counts each missed frame, and with `atleast` if more frames may have been missed. Fails (E69) if not
+/// all `frames` frames of IN were passed to the driver, or fewer frames than expected were received.
 fn report_counts(
     rt: &HostRuntime,
     job: &DriveJob<'_>,
@@ -77,7 +79,7 @@ fn report_counts(
     let _ = eprintln!(rt;
         "sent {sent} illegal {illegal} received {received} missed {missed} {exact}"
     );
-    if counts.is_all(frames, job.expect) {
+    if counts.is_complete(frames, job.expect) {
         Ok(())
     } else {
         Err(Fault::of(E69))

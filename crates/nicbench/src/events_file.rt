@@ -6,13 +6,13 @@ use crate::run::names_of_wires;
 use command_line::RunJob;
 use network_plan::HostPlan;
 use pcap_bench::Sink;
-use program_files::{FileSink, STANDARD_STREAM, create, is_in_folder, is_same_file};
+use program_files::{FileSink, STANDARD_STREAM, create, is_file_in_folder, is_same_file};
 use scenario::Scenario;
 use scenario_bench::socket_files;
 use std::alloc::AllocError;
 use std::fs::File;
 
-/// Returns whether a path is that of a file that a run reads: its scenario, or one of these traces.
+/// Returns whether a path leads to a plain file that a run reads: its scenario, or one of these traces.
 fn is_read(rt: &HostRuntime, path: &str, job: &RunJob<'_>, traces: &[String]) -> bool {
     for trace in traces {
         if is_same_file(rt, path, trace.as_str()) {
@@ -22,8 +22,8 @@ fn is_read(rt: &HostRuntime, path: &str, job: &RunJob<'_>, traces: &[String]) ->
     is_same_file(rt, path, job.scenario)
 }
 
-/// Returns whether a path is that of a file that a run writes in OUTDIR: the file of a socket, or of a wire if the job
-/// asks for the files of wires.
+/// Returns whether a path leads to an existing file that a run writes in OUTDIR: the file of a socket, or of a wire if
+/// the job asks for the files of wires. Fails if memory is refused.
 fn is_written(
     rt: &HostRuntime,
     path: &str,
@@ -31,14 +31,14 @@ fn is_written(
     plans: &[HostPlan],
 ) -> Result<bool, AllocError> {
     let sockets = socket_files(rt.alloc(), plans)?;
-    if is_in_folder(rt, path, job.directory, sockets.as_slice())? {
+    if is_file_in_folder(rt, path, job.directory, sockets.as_slice())? {
         return Ok(true);
     }
     let wires = names_of_wires(rt.alloc(), job, plans)?;
-    is_in_folder(rt, path, job.directory, wires.as_slice())
+    is_file_in_folder(rt, path, job.directory, wires.as_slice())
 }
 
-/// Refuses a path if it is that of a file that a run writes in OUTDIR.
+/// Fails (E73) if a path leads to an existing file that a run writes in OUTDIR. Also fails (E57) if memory is refused.
 fn refuse_written(
     rt: &HostRuntime,
     path: &str,
@@ -52,8 +52,8 @@ fn refuse_written(
     }
 }
 
-/// Opens or creates the file at this path. Refuses a file that the run also reads, or writes in OUTDIR. A new file that
-/// is refused remains, and is empty.
+/// Opens or creates the file at this path. Fails (E73) if the run also reads this file, or writes it in OUTDIR; then a
+/// file that was created remains, and is empty. The sink's count of failures is 0.
 fn create_unused(
     rt: &HostRuntime,
     path: &str,
@@ -73,7 +73,7 @@ fn create_unused(
 
 /// Opens or creates the file for the lines of events, if the job names a file. Refuses a file that the run also reads,
 /// or writes in OUTDIR. An existing file keeps its bytes until the first new byte is written. Returns `None` if the job
-/// asks for no such lines, or if they go to standard output.
+/// asks for no such lines, or if they go to standard output. A sink's count of failures is 0.
 pub(crate) fn create_events_sink(
     rt: &HostRuntime,
     job: &RunJob<'_>,

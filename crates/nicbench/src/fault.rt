@@ -46,7 +46,8 @@ pub(crate) enum Detail {
     Options,
 }
 
-/// Returns the code for the error of an input: it was refused, couldn't be read, or needs memory that was refused.
+/// Returns the code of the reason why an input can't be used. The input isn't a valid trace, couldn't be read, or needs
+/// memory that was refused.
 fn input_code(error: ReadError) -> Code
     ensures { result.status ≡ spec.status_of_input error }
 {
@@ -76,7 +77,8 @@ fn line_code(fault: LineFault) -> Code
     }
 }
 
-/// The text that follows the code on standard error. It is empty for a line: the number is printed before the code.
+/// The text that follows the code on standard error. It is empty for `Line`, which is printed before the code, and for
+/// `Input`, which is printed in the advice.
 impl Display for Detail {
     fn fmt<W: fmt::Write>(&self, f: &mut fmt::Formatter<W>) -> fmt::Result {
         match self {
@@ -110,8 +112,8 @@ impl Fault {
         }
     }
 
-    /// Returns the fault of a run whose `--events` file is also a file that the run reads or writes in OUTDIR. It is
-    /// E57 if there is no memory for the path.
+    /// Returns the fault of a run whose `--events` file is also a file that the run reads or writes in OUTDIR: E73 with
+    /// the file's path, or E57 if there is no memory for the path.
     pub(crate) fn same_file(alloc: Global, path: &str) -> Fault
         ensures { spec.IsSameFile path.now result }
     {
@@ -126,12 +128,12 @@ impl Fault {
 
     /// Returns whether existing files in OUTDIR are certainly unchanged after a run that ended with this fault. A run
     /// writes these files after its last event, so they can change only if the fault is a failed write (E67).
-    pub(crate) fn leaves_files(&self) -> bool {
+    pub(crate) fn keeps_old_files(&self) -> bool {
         self.code.label != E67.label
     }
 
-    /// Returns the meaning of a fault of an input and what a user can do, with the path of the input. `None` for other
-    /// faults, and if there is no memory for this text.
+    /// Returns the meaning of a fault of an input, and what a user can do. In the text of the code, the path of the
+    /// input replaces the placeholder `IN`. Returns `None` for other faults, and if there is no memory for the text.
     pub(crate) fn advice(&self, alloc: Global) -> Option<String> {
         match &self.detail {
             Detail::Input(path) => self.code.text.replace(alloc, "IN", path.as_str()).ok(),

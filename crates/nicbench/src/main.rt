@@ -24,7 +24,8 @@ use std::process::ExitCode;
 /// The exit status if the words ask for help or the version, or are refused for another reason than memory.
 const USAGE: u8 = 2;
 
-/// Returns the words that the program was called with. Fails if a word isn't Unicode, or if memory was refused.
+/// Returns the words that the program was called with. Fails with `NotUnicode` if a word isn't Unicode. Each other
+/// error counts as refused memory.
 fn words(rt: &HostRuntime) -> Result<Vec<String>, LineError<'static>> {
     match env::args(rt) {
         Ok(args) => Ok(args.collect(rt.alloc())?),
@@ -48,34 +49,35 @@ fn refuse(rt: &HostRuntime, error: &LineError<'_>) -> ExitCode {
     }
 }
 
-/// Reports a fault of a job on standard error: its text, and what to do if an input was refused or couldn't be read.
-/// For `run`, also reports that existing files in OUTDIR are unchanged, unless a write failed. Returns the exit status,
-/// which is the fault's even if standard error accepts nothing.
+/// Reports a fault of a job on standard error. If an input was refused or couldn't be read, also reports what the user
+/// can do. For `run`, also reports that existing files in OUTDIR are unchanged, unless a write failed. Returns the
+/// fault's exit status, even if standard error accepts nothing.
 fn report(rt: &HostRuntime, job: &Job<'_>, fault: &Fault) -> ExitCode {
     let _ = eprintln!(rt; "nicbench: {fault}");
     if let Some(advice) = fault.advice(rt.alloc()) {
         let _ = eprintln!(rt; "nicbench: {advice}");
     }
-    if matches!(job, Job::Run(_)) && fault.leaves_files() {
+    if matches!(job, Job::Run(_)) && fault.keeps_old_files() {
         let _ = eprintln!(rt; "nicbench: existing files in OUTDIR are unchanged");
     }
     ExitCode::from(fault.code.status)
 }
 
-/// Returns the outcome of a job of `program_files`, with the fault of its error.
-fn of_files(outcome: Result<(), FileError>) -> Result<(), Fault> {
+/// Returns the outcome of a job of `program_files`, with its error converted to a fault.
+fn with_fault(outcome: Result<(), FileError>) -> Result<(), Fault> {
     Ok(outcome?)
 }
 
-/// Does this job, which these words ask for, and reports its fault, if any. Returns the exit status. The values of the
-/// job must be within their bounds, as [`line`] ensures.
+/// Does this job, and reports its fault, if any. Returns the exit status. `words` are the words of the command line
+/// that asks for the job. In a recorded schedule, `serve` stores the options of its adapter that are among them. The
+/// values of the job must be within their bounds, as [`line`] ensures.
 fn obey(rt: &HostRuntime, words: &[String], job: &Job<'_>) -> ExitCode
     requires { HasBounds job.now }
 {
     let outcome = match job {
-        Job::Pass(job) => of_files(run_pass(rt, job)),
+        Job::Pass(job) => with_fault(run_pass(rt, job)),
         Job::Run(job) => run_scenario(rt, job),
-        Job::Show(job) => of_files(run_show(rt, job)),
+        Job::Show(job) => with_fault(run_show(rt, job)),
         Job::Serve(job) => run_serve(rt, words, job),
         Job::Drive(job) => run_drive(rt, job),
     };

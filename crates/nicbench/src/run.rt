@@ -17,7 +17,7 @@ use std::alloc::{AllocError, Global};
 use std::fs::File;
 use std::io;
 
-/// Reads the scenario at this path.
+/// Reads and parses the scenario at this path. Fails if it can't be read, or if a line is invalid.
 fn read_scenario(rt: &HostRuntime, path: &str) -> Result<Scenario, Fault> {
     let text = read_bytes(rt, path)?;
     Ok(Scenario::read(rt.alloc(), text.as_slice())?)
@@ -64,6 +64,7 @@ fn create_socket_sinks(
     plans: &[HostPlan],
 ) -> Result<Vec<FileSink<File>>, Fault>
     ensures count { IfOk result (λ sinks. length sinks.items ≡ sockets_in plans.now) }
+    // Each sink's count of failures is 0.
     ensures countable { IfOk result (λ sinks.
         All (λ sink. ⟦<FileSink<File> as Sink>⟧.failures sink ≡ 0) sinks.items) }
 {
@@ -80,6 +81,7 @@ fn create_wire_sinks(
     plans: &[HostPlan],
 ) -> Result<Vec<FileSink<File>>, Fault>
     ensures count { IfOk result (λ sinks. length sinks.items ≤ wires_in plans.now) }
+    // Each sink's count of failures is 0.
     ensures countable { IfOk result (λ sinks.
         All (λ sink. ⟦<FileSink<File> as Sink>⟧.failures sink ≡ 0) sinks.items) }
 {
@@ -88,8 +90,8 @@ fn create_wire_sinks(
     Ok(sinks)
 }
 
-/// Plays a scenario, and writes the traces to these sinks. If the scenario feeds many frames and standard error is a
-/// terminal, first reports that the run begins.
+/// Plays a scenario, which feeds `traces`. Then writes the trace of each socket, and of each wire that has a sink, to
+/// its sink. If the scenario feeds many frames and standard error is a terminal, first reports that the run begins.
 ///
 /// There must be one trace for each trace that the scenario feeds, one sink for each socket, and at most one wire sink
 /// for each wire. Each sink must have failed fewer than 2^64 - 1 times.
@@ -124,9 +126,9 @@ fn play_to_sinks<W: Sink>(
     }
 }
 
-/// Opens the files in OUTDIR, plays a scenario, and writes the files. The files of sockets are written before those of
-/// wires, which are written only if the job asks for them. There must be one trace for each trace that the scenario
-/// feeds.
+/// Opens the files in OUTDIR, plays a scenario, which feeds `traces`, and writes the files. The files of sockets are
+/// written before those of wires, which are written only if the job asks for them. There must be one trace for each
+/// trace that the scenario feeds.
 fn play(
     rt: &HostRuntime,
     job: &RunJob<'_>,
@@ -174,8 +176,8 @@ fn print_to_standard_output(rt: &HostRuntime, summary: &Summary) -> Result<(), F
     Ok(())
 }
 
-/// Writes the lines of events to their file, if the job asks for them. The file must have failed fewer than 2^64 - 1
-/// times.
+/// Writes the lines of events to their file. Does nothing if there are no such lines, or no file for them. The file
+/// must have failed fewer than 2^64 - 1 times.
 fn write_events<W: Sink>(summary: &Summary, file: &mut Option<W>) -> Result<(), WriteError>
     requires { IfSome file.old (λ sink. W.failures sink < u64.MAX) }
 {

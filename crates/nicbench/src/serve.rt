@@ -6,7 +6,7 @@ use crate::codes::{E58, E71};
 use crate::fault::Fault;
 use adapter_server::{ServeOptions, serve};
 use command_line::{ServeImage, ServeJob, ServeLink};
-use program_files::{LateFile, player_of, read_front, record_of, store};
+use program_files::{LateFile, open_record, read_front, read_player, store};
 use registers::{Image, Link, WORDS};
 use std::alloc::AllocError;
 use std::fs::File;
@@ -39,7 +39,7 @@ fn image_in(bytes: &[u8]) -> Option<Image> {
 }
 
 /// Returns the image of the EEPROM that the job asks for. Fails if the file can't be read, or doesn't have 128 bytes
-/// (E58).
+/// (E58). The clause states nothing about an image from a file.
 fn image_of(rt: &HostRuntime, image: ServeImage<'_>) -> Result<Image, Fault>
     ensures { IfOk result (IsImageFor image.entry) }
 {
@@ -70,7 +70,8 @@ fn options_of(job: &ServeJob<'_>, image: Image) -> ServeOptions
     }
 }
 
-/// Reads requests from standard input, and writes their answers to standard output. Returns the player after the last
+/// Reads requests from standard input, and writes their answers to standard output. Fails if memory is refused, or if a
+/// read or a write fails; the contract of [`serve`] states what is written then. Returns the player after the last
 /// request; `None` if `player` is `None`.
 fn serve_input(
     rt: &HostRuntime,
@@ -90,7 +91,8 @@ fn serve_input(
     }
 }
 
-/// Reports the deviations that weren't met, on standard error. Fails (E71) if there is such a deviation.
+/// Reports on standard error each deviation of the schedule that wasn't met: requests ended before the access or the
+/// request of the deviation. Fails (E71) if there is such a deviation.
 fn report_unmet(rt: &HostRuntime, player: &Player) -> Result<(), Fault> {
     let unmet = player.agenda.unmet(rt.alloc())?;
     if unmet.is_empty() {
@@ -103,7 +105,9 @@ fn report_unmet(rt: &HostRuntime, player: &Player) -> Result<(), Fault> {
     Err(Fault::of(E71))
 }
 
-/// Stores the schedule that was recorded if there is a file for it, and reports the deviations that weren't met.
+/// Stores the recorded schedule if there is a file for it, with the adapter's options. `words` are the words of the
+/// command line, which contain these options. If the schedule can't be stored, fails and reports nothing. Otherwise
+/// reports the deviations that weren't met, and fails (E71) if there is such a deviation.
 fn finish(
     rt: &HostRuntime,
     words: &[String],
@@ -116,8 +120,8 @@ fn finish(
     report_unmet(rt, player)
 }
 
-/// Serves with this player. The file for the recorded schedule is opened first. After the last request, stores the
-/// schedule that was recorded if there is a file for it, and reports the deviations that weren't met.
+/// Opens the file for a recorded schedule, if the job names one, and serves with this player. After the last request,
+/// does what [`finish`] does. A job that names such a file has a player, so without a player there is nothing to store.
 fn serve_with(
     rt: &HostRuntime,
     words: &[String],
@@ -125,7 +129,7 @@ fn serve_with(
     options: &ServeOptions,
     player: Option<Player>,
 ) -> Result<(), Fault> {
-    let mut record = record_of(rt, job)?;
+    let mut record = open_record(rt, job)?;
     match serve_input(rt, options, player)? {
         Some(player) => finish(rt, words, &mut record, &player),
         None => Ok(()),
@@ -140,6 +144,6 @@ pub(crate) fn run_serve(
     job: &ServeJob<'_>,
 ) -> Result<(), Fault> {
     let options = options_of(job, image_of(rt, job.image)?);
-    let player = player_of(rt, job)?;
+    let player = read_player(rt, job)?;
     serve_with(rt, words, job, &options, player)
 }

@@ -46,8 +46,8 @@ pub enum HostAnswer<F> {
 impl Host {
     /// Makes the call `call`, and returns its answer. A frame that a socket returns is copied to the front of `into`.
     /// The bytes of `into` after the frame don't change; if no frame is returned, no byte changes. If the bus obeys the
-    /// law, and the host is ready with its transmit side set up, the call has the effect of its answer. `bus` must have
-    /// at least `layout().size()` bytes.
+    /// law, and the host is ready with its transmit side set up, the call has the effect of its answer (`EffectOf`).
+    /// `bus` must have at least `layout().size()` bytes.
     #[inline(always)]
     pub fn call<B: Bus>(
         &mut self,

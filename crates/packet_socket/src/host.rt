@@ -4,7 +4,7 @@ ghost use Rattle.std.specs.Prelude.{◌≡◌, ◌↔◌, ◌≤◌, ◌<◌, �
 ghost use Rattle.dma_memory.specs.Layout.{size_of};
 ghost use Rattle.dma_memory.specs.Owners.{HasNoSecondOwner};
 ghost use Rattle.descriptors.specs.Frames.{longest_frame, shortest_sent};
-ghost use Rattle.bring_up.specs.Configuration.{CanBeHad};
+ghost use Rattle.bring_up.specs.Configuration.{IsValidIn};
 ghost use Rattle.bring_up.specs.Device.{IsBeforeAccess};
 ghost use Rattle.bring_up.specs.declared.init_error.InitError.TheVariants as InitError;
 ghost use Rattle.registers.specs.Counting.{greatest_count};
@@ -62,10 +62,10 @@ impl Host {
         ensures keeps { Keeps B.Bus bus.old bus.new }
 
         // Over any bus.
-        ensures config { (result ≡ Err InitError.Config) ↔ ¬ CanBeHad config.now (B.extent bus.old) }
+        ensures config { (result ≡ Err InitError.Config) ↔ ¬ IsValidIn config.now (B.extent bus.old) }
         ensures unasked { IfErr result (λ error. IsBeforeAccess error → bus.new ≡ bus.old) }
         ensures ok { IfOk result (IsNewHost config.now kinds.items) }
-        ensures had { IfOk result (λ host. CanBeHad config.now (B.extent bus.old)) }
+        ensures had { IfOk result (λ host. IsValidIn config.now (B.extent bus.old)) }
 
         // Over a bus that obeys the law.
         ensures initialises { B.honest bus.old
@@ -73,7 +73,9 @@ impl Host {
         ensures ready { B.honest bus.old → IfOk result (λ host. HostReady host (B.world bus.new)) }
         ensures refuses { B.honest bus.old → IfErr result (RefusesInit B.Bus bus.old bus.new) }
     {
+        // An invalid configuration is E15 even if the memory for the queues can't be allocated.
         let layout = config.layout(bus.size())?;
+        // A queued frame has at least one buffer, so a queue never needs more room than this.
         let sockets = Sockets::new(alloc, kinds, usize::from(layout.buffers()))?;
         let driver = Driver::init(alloc, bus, config)?;
         Ok(Host { driver, sockets })
@@ -87,7 +89,7 @@ impl Host {
         self.driver.layout()
     }
 
-    /// Returns the number of sockets.
+    /// Returns the number of sockets. Each socket has a queue (`queues`).
     pub fn socket_count(&self) -> usize
         ensures count { result ≡ length self.now.kinds }
         ensures queues { length self.now.queues ≡ length self.now.kinds }
@@ -95,9 +97,11 @@ impl Host {
         self.sockets.len()
     }
 
-    /// Returns the number of frames queued for a socket, or 0 if there is no such socket. Each queued frame has a legal
-    /// length, which is the sum of the sizes of its pieces, and each piece fits into a buffer. No buffer has two
-    /// owners; the queues count as owners.
+    /// Returns the number of frames queued for a socket, or 0 if there is no such socket.
+    ///
+    /// The other clauses state the host's invariant. Each socket has a queue. Each queued frame has a legal length,
+    /// which is the sum of the sizes of its pieces, and each piece fits into a buffer. No buffer has two owners; the
+    /// queues count as owners.
     pub fn waiting(&self, socket: usize) -> usize
         ensures count { result ≡ length (queue_at self.now.queues socket) }
         ensures table { length self.now.queues ≡ length self.now.kinds }

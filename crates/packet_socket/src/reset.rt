@@ -10,12 +10,12 @@ use crate::Host;
 use bus::Bus;
 
 impl Host {
-    /// Returns the place of the oldest outstanding slot of the receive ring, or of the next slot to be offered if no
-    /// slot is outstanding.
-    pub fn oldest(&self) -> u16
+    /// Returns the place of the oldest outstanding slot of the receive ring, or of the next receive slot to be offered
+    /// if no slot is outstanding. A reset drops the received frames in the slots from this place on.
+    pub fn oldest_receive(&self) -> u16
         ensures { result ≡ self.now.driver.oldest_receive }
     {
-        self.driver.oldest()
+        self.driver.oldest_receive()
     }
 
     /// Resets the adapter by [`Driver::reset`](driver::Driver::reset). The frames that are queued for sockets remain

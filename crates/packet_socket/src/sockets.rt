@@ -63,7 +63,7 @@ impl Sockets {
         })
     }
 
-    /// Returns the number of sockets.
+    /// Returns the number of sockets. Each socket has a queue (`queues`).
     pub(crate) fn len(&self) -> usize
         ensures count { result ≡ length self.now.kinds }
         ensures queues { length self.now.queues ≡ length self.now.kinds }
@@ -89,7 +89,7 @@ impl Sockets {
     }
 
     /// Removes and returns the oldest frame of a socket's queue. Returns `None` if the queue is empty. There must be
-    /// such a socket.
+    /// such a socket. No other queue changes (`others`).
     #[tactic(auto, using(crate::proofs::InsideQueues::others_stay))]
     pub(crate) fn next(&mut self, socket: usize) -> Option<Received>
         requires there { socket < length self.old.kinds }

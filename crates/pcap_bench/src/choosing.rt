@@ -16,10 +16,10 @@ use rx_engine::{AddressWords, TableBit, VLAN_TYPE, hash_of};
 const RAH: u32 = RAL + REGISTER_BYTES;
 
 /// Writes RAL(0) and RAH(0): the address with AV, or 0 if no address is given. The 0 clears the address that a reset
-/// loads from the EEPROM. (After a reset, MTA and VFTA are 0.) The clause `address` states that a given address has 6
-/// bytes, each below 256.
+/// loads from the EEPROM. (After a reset, MTA and VFTA are 0.)
 fn write_address(adapter: &mut Adapter, address: &Option<[u8; 6]>)
     ensures written { adapter.new ≡ record adapter.old { filter = with_address address.now adapter.old.filter } }
+    // A given address has 6 bytes, each below 256.
     ensures address { IfSome address.now IsAddress }
 {
     let words = match address {
@@ -30,9 +30,9 @@ fn write_address(adapter: &mut Adapter, address: &Option<[u8; 6]>)
     adapter.write(RAH, words.high);
 }
 
-/// Writes the word of a table that contains the bit of a number. Only this bit of the word is 1. `table` is the offset
-/// of MTA or VFTA, and the number must be at most 4095.
-fn write_number(adapter: &mut Adapter, table: u32, number: u16)
+/// Writes the word of a table that contains the bit of a number: 1 in this bit, and 0 in the word's other bits. `table`
+/// is the offset of the table, MTA or VFTA, and the number must be at most 4095.
+fn write_table_word(adapter: &mut Adapter, table: u32, number: u16)
     requires table { table ≤ VFTA }
     requires number { number ≤ 4095 }
     ensures { adapter.new ≡ after_write (table + 4 * (number / 32)) (2 ^ (number % 32)) adapter.old }
@@ -46,7 +46,7 @@ fn write_group(adapter: &mut Adapter, group: &Option<[u8; 6]>)
     ensures { adapter.new ≡ record adapter.old { filter = with_group_bit group.now adapter.old.filter } }
 {
     if let Some(group) = group {
-        write_number(adapter, MTA, hash_of(GroupOffset::Bits47To36, group));
+        write_table_word(adapter, MTA, hash_of(GroupOffset::Bits47To36, group));
     }
 }
 
@@ -56,7 +56,7 @@ fn write_vlan(adapter: &mut Adapter, vlan: Option<u16>)
     ensures { adapter.new ≡ record adapter.old { filter = with_vlan_bit vlan adapter.old.filter } }
 {
     if let Some(number) = vlan {
-        write_number(adapter, VFTA, number);
+        write_table_word(adapter, VFTA, number);
     }
 }
 
@@ -79,6 +79,7 @@ pub fn mode_of(options: &PassFilter) -> Rctl
 pub fn write_filter(adapter: &mut Adapter, options: &PassFilter)
     requires { HasVlanNumber options.now }
     ensures written { adapter.new ≡ record adapter.old { filter = with_tables options.now adapter.old.filter } }
+    // A given address has 6 bytes, each below 256.
     ensures address { IfSome options.now.address IsAddress }
 {
     write_address(adapter, &options.address);

@@ -14,7 +14,7 @@ ghost use Rattle.pcap_bench.specs.Options.{filter_for, HasVlanNumber};
 
 use crate::choosing::{mode_of, write_filter};
 use crate::filter::PassFilter;
-use crate::slots::{BUFFERS, SLOTS, load_desc, offer, offer_all};
+use crate::slots::{BUFFERS, SLOTS, load_desc, store_all_descs, store_desc};
 use adapter::offsets::{RCTL, RDBAH, RDBAL, RDH, RDLEN, RDT};
 use adapter::{Adapter, Fate, StepKind};
 use bitflags::Flags;
@@ -66,8 +66,12 @@ fn write_ring(adapter: &mut Adapter, layout: &Layout)
 }
 
 /// Plays the two steps of the oldest frame in the packet buffer: RxData moves the frame to memory in one piece, and
-/// RxDone writes back the descriptor. There must be such a frame and an offered descriptor. The frame must fit into the
-/// descriptor's buffer, which must be inside memory.
+/// RxDone writes back the descriptor.
+///
+/// There must be such a frame and an offered descriptor. RCTL.EN must be set, no piece may be in progress, and no fault
+/// may have stopped the data steps (`frame`). RDH and RDT must be indices of slots, and RCTL.BSEX must be 0. The
+/// descriptor, and the bytes of its buffer that the frame fills, must be inside memory (`place`). The frame must fit
+/// into the buffer, so the next piece is its last (`last`).
 fn finish_frame(adapter: &mut Adapter, memory: &mut HostMemory)
     requires frame { HasFrameAndDescriptor adapter.old }
     requires place { CanMovePiece memory.old adapter.old }
@@ -98,7 +102,7 @@ impl ReceiveLane {
         // This layout is allowed: rings of 8 descriptors, and 64 receive buffers. So `of` doesn't fail.
         let layout = Layout::of(SLOTS, SLOTS, BUFFERS).unwrap();
         let mut memory = HostMemory::new(alloc, layout.size())?;
-        offer_all(&mut memory, &layout);
+        store_all_descs(&mut memory, &layout);
         let image = Image::with_address(OWN_ADDRESS);
         let mut adapter = Adapter::new(alloc, &image, Link::Never)?;
         write_filter(&mut adapter, options);
@@ -173,12 +177,13 @@ impl ReceiveLane {
     pub fn offer(&mut self)
         requires { HasFrame self.old (slot_bytes self.old) }
         ensures next { self.new.slot ≡ (self.old.slot + 1) % 8 }
+        // The stored descriptor has no status bit, so DD is 0.
         ensures offered { status_bits (descriptor_at self.new.memory (16 * self.old.slot)).status ≡ 0 }
         ensures waiting { IsWaiting self.new }
         ensures filter { self.new.adapter.filter ≡ self.old.adapter.filter }
     {
         let buffer = self.descriptor().address;
-        offer(&mut self.memory, self.slot, buffer);
+        store_desc(&mut self.memory, self.slot, buffer);
         self.adapter.write(RDT, u32::from(self.slot));
         self.slot = (self.slot + 1) % SLOTS;
     }

@@ -69,6 +69,7 @@ fn pass_frames<W: Sink>(
     };
     let mut next = 0;
     for frame in trace.frames.iter() {
+        // All frames are numbered, also those that aren't written.
         let number = next;
         next += 1;
         if !is_sendable(frame) {
@@ -89,7 +90,7 @@ fn pass_frames<W: Sink>(
 /// Sends each frame of 14 to 1,518 bytes of a trace to an adapter, padded with zeros to at least 60 bytes. Frames that
 /// its receive filter accepts reach the host's memory through a receive ring of 8 descriptors, and are written from
 /// there. A written frame's time in microseconds is its number among the frames of the trace, from 0; truncated packets
-/// don't count. The trace has its times in `unit`.
+/// don't count. The written trace has its times in `unit`.
 ///
 /// Frames below 14 or above 1,518 bytes are counted as illegal. The filter checks each of the other frames after
 /// padding. If an address is given, it is the only receive address. If a group is given, its hash (RCTL.MO 00) selects

@@ -56,7 +56,8 @@ fn push_header(line: &mut Line, frame: &[u8])
     push_byte(line, frame[13]);
 }
 
-/// Writes the line of a frame: first its number, without a label, and then its length.
+/// Writes the line of a frame: its number, its length, and its addresses and type, or `short` if the frame has fewer
+/// than 14 bytes. These fields have no labels.
 fn write_frame<W: Sink>(sink: &mut W, number: u64, frame: &[u8]) -> Result<(), WriteError>
     requires { W.failures sink.old < u64.MAX }
     ensures ok { OnOk result (Appends (W.taken sink.old) (W.taken sink.new) (shown_frame number frame.now)) }

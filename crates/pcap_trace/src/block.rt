@@ -38,7 +38,7 @@ impl Model for Block {
 
 /// Reads at most 65,536 bytes once into a slice, after its first `end` bytes, which don't change. The slice must have
 /// more than `end` bytes. Returns the number of bytes read; 0 means that the source is at its end.
-fn read_behind<S: Source>(
+fn read_once_after<S: Source>(
     source: &mut S,
     bytes: &mut [u8],
     end: usize,
@@ -51,6 +51,7 @@ fn read_behind<S: Source>(
         (λ n. Consumes (S.left source.old) (S.left source.new) (slice_range bytes.new end (end + n))) }
     ensures used { Uses (S.left source.old) (S.left source.new) }
     ensures at_end { IfOk result (λ n. n ≡ 0 → IsAtEnd (S.left source.new)) }
+    // A read lowers the source's limit, which is below 2^64, by at least the number of bytes read.
     ensures limit { IfOk result (λ n. S.limit source.new + n ≤ S.limit source.old) }
     ensures counted { S.limit source.old ≤ u64.MAX }
     ensures failures { CountsFailures result (S.failures source.old) (S.failures source.new) }
@@ -104,6 +105,7 @@ impl Block {
         ensures used { Uses (S.left source.old) (S.left source.new) }
         ensures more { IfOk result (λ n. length self.new ≡ length self.old + n) }
         ensures at_end { IfOk result (λ n. n ≡ 0 → IsAtEnd (S.left source.new)) }
+        // A read lowers the source's limit, which is below 2^64, by at least the number of bytes read.
         ensures limit { IfOk result (λ n. S.limit source.new + n ≤ S.limit source.old) }
         ensures counted { S.limit source.old ≤ u64.MAX }
         ensures failures { CountsFailures result (S.failures source.old) (S.failures source.new) }
@@ -112,7 +114,7 @@ impl Block {
         let end = self.end - self.start;
         self.start = 0;
         self.end = end;
-        let count = read_behind(source, self.bytes.as_mut_slice(), end)?;
+        let count = read_once_after(source, self.bytes.as_mut_slice(), end)?;
         self.end = end + count;
         Ok(count)
     }
@@ -131,6 +133,7 @@ impl Block {
         ensures received { OnOk result (Receives self.old self.new (S.left source.old) (S.left source.new)) }
         ensures used { Uses (S.left source.old) (S.left source.new) }
         ensures filled { OnOk result ((want ≤ length self.new) ⊎ IsAtEnd (S.left source.new)) }
+        // A read lowers the source's limit, which is below 2^64, by at least the number of bytes read.
         ensures limit { OnOk result (length self.new + S.limit source.new ≤ length self.old + S.limit source.old) }
         ensures counted { length self.old < want → S.limit source.old ≤ u64.MAX }
         ensures failures { CountsFailures result (S.failures source.old) (S.failures source.new) }
@@ -138,13 +141,13 @@ impl Block {
         if want <= self.end - self.start {
             return Ok(());
         }
-        self.fill_slowly(source, want)
+        self.fill_by_reading(source, want)
     }
 
-    /// Does what [`fill`](Block::fill) does. It is a separate function, so that `fill` can be inlined. The block must
-    /// have fewer than `want` bytes.
+    /// Does what [`fill`](Block::fill) does, if the block has fewer than `want` bytes. The loop is in this separate
+    /// function, so that `fill` can be inlined.
     #[inline(never)]
-    fn fill_slowly<S: Source>(&mut self, source: &mut S, want: usize) -> Result<(), DeviceError>
+    fn fill_by_reading<S: Source>(&mut self, source: &mut S, want: usize) -> Result<(), DeviceError>
         requires countable { S.failures source.old < u64.MAX }
         requires room { want ≤ ROOM }
         requires missing { length self.old < want }

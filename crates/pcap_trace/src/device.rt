@@ -24,7 +24,8 @@ pub trait Source {
     /// The number of times the source has failed.
     ghost failures: { Self → ℕ };
 
-    /// Reads bytes into the front of a slice, and returns their number. If the slice isn't empty, 0 means the end.
+    /// Reads the next bytes of the source into the front of a slice, and returns their number. If the slice isn't
+    /// empty, 0 means that the source is at its end.
     ///
     /// # Errors
     ///
@@ -34,6 +35,7 @@ pub trait Source {
         ensures count { IfOk result (λ n. n ≤ length into.old) }
         ensures limit { MatchResult result (λ n. limit self.new + n ≤ limit self.old)
             (λ _. limit self.new ≤ limit self.old) }
+        // The limit fits into the `u64` that the call `limit` returns.
         ensures counted { limit self.old ≤ u64.MAX }
         ensures bytes { ReadConsumes (left self.old) (left self.new) result into.new }
         ensures failures { CountsFailures result (failures self.old) (failures self.new) };

@@ -37,6 +37,7 @@ impl<R: Read> Source for ReaderSource<R> {
     ghost failures = { λ s. s.failures };
 
     fn read(&mut self, into: &mut [u8]) -> Result<usize, DeviceError> {
+        // If the limit is 0, the reader gets an empty slice, and reads 0 bytes. `usize` has the size of `u64`.
         let room = into.len().min(self.limit as usize);
         match self.reader.read(&mut into[..room]) {
             Ok(count) => {

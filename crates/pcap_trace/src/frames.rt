@@ -69,13 +69,14 @@ impl Frames {
     ///
     /// # Errors
     ///
-    /// Only if memory is refused; then the frames don't change.
+    /// Only if memory is refused; then the list doesn't change.
     #[inline(always)]
     pub fn push(&mut self, frame: &[u8]) -> Result<(), AllocError>
         requires { length frame.now < 2 ^ 32 }
         ensures ok { OnOk result (self.new ≡ self.old ++ frame.now ∷ []) }
         ensures err { OnErr result (self.new ≡ self.old) }
     {
+        // With room for the length, nothing can fail after the bytes are stored.
         self.lengths.reserve(1)?;
         self.bytes.extend_from_slice(frame)?;
         self.lengths.push_reserved(frame.len() as u32);

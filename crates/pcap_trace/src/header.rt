@@ -23,7 +23,8 @@ fn is_magic(word: u32) -> bool
     word == MICROSECONDS_MAGIC || word == NANOSECONDS_MAGIC
 }
 
-/// Checks the file header that the bytes begin with, in the byte order `T`. Fails with the header's first fault.
+/// Checks the file header that the bytes begin with, in the byte order `T`. Fails with the header's first fault, in the
+/// order of [`ReadError`].
 fn check_header<T: ByteOrder>(bytes: &[u8]) -> Result<(), ReadError>
     ensures { MatchResult result (λ _. header_fault T.number_of bytes.now ≡ None)
         (λ e. header_fault T.number_of bytes.now ≡ Some e) }
@@ -56,6 +57,7 @@ pub fn byte_order(bytes: &[u8]) -> Result<Endianness, ReadError>
 {
     match check_header::<LittleEndian>(bytes) {
         Ok(()) => Ok(Endianness::Little),
+        // The header is too short for either byte order, or its magic number is little-endian.
         Err(fault) if fault != ReadError::Magic => Err(fault),
         Err(_) => check_header::<BigEndian>(bytes).map(|()| Endianness::Big),
     }

@@ -51,13 +51,14 @@ fn fraction_of(unit: Unit, time: u64) -> u32
     ensures { result ≡ fraction_of unit time }
 {
     let fraction = time % MICROSECONDS;
+    // Both values are below 10^9, so the casts don't change them.
     match unit {
         Unit::Micros => fraction as u32,
         Unit::Nanos => (fraction * NANOSECONDS) as u32,
     }
 }
 
-/// Returns the file header of written traces with this unit. Bytes 8 to 15 are 0.
+/// Returns the file header of written traces with this unit. Bytes 8 to 15, two words that readers ignore, are 0.
 #[tactic(auto, unfolding(crate::specs::Format::file_header))]
 pub fn file_header(unit: Unit) -> [u8; FILE_HEADER]
     ensures { result ≡ file_header unit }

@@ -42,8 +42,13 @@ fn packet_lengths<T: ByteOrder>(bytes: &[u8]) -> Option<Lengths>
 }
 
 /// Reads the packets after the file header, up to the source's end: first the bytes of the block, then those of the
-/// source. The number of all these bytes must be below 2^64. The function is compiled once for each byte order, which
-/// keeps the loop short. Its proof uses the label `'packets`.
+/// source. The number of all these bytes must be below 2^64 (`counted`). `small` holds for every block. The function is
+/// compiled once for each byte order, which keeps the loop short. Its proof uses the label `'packets`.
+///
+/// # Errors
+///
+/// [`Record`](ReadError::Record) if a complete packet header has a captured length above 262,144 bytes.
+/// [`Memory`](ReadError::Memory) if memory is refused, and [`Read`](ReadError::Read) if the source fails.
 #[inline(never)]
 fn read_body<T: ByteOrder, S: Source>(
     alloc: Global,
@@ -53,6 +58,7 @@ fn read_body<T: ByteOrder, S: Source>(
     requires countable { S.failures source.old < u64.MAX }
     requires small { length block.old ≤ 327696 }
     requires counted { length block.old + S.limit source.old ≤ u64.MAX }
+    // If contracts know the bytes, the trace consists of these bytes, and an error fits them.
     ensures ok { IfOk result
         (λ t. IfSome (prepend_known block.old (S.left source.old))
         (λ bytes. IsBody T.number_of bytes t.frames t.skipped (ending_of t.cut))) }
@@ -67,6 +73,7 @@ fn read_body<T: ByteOrder, S: Source>(
     'packets: loop {
         block.fill(source, PACKET_HEADER)?;
         let Some(lengths) = packet_lengths::<T>(block.held()) else {
+            // The bytes end here, or inside a packet header.
             break;
         };
         if lengths.captured > MOST_CAPTURED {
@@ -75,6 +82,7 @@ fn read_body<T: ByteOrder, S: Source>(
         let whole = PACKET_HEADER + lengths.captured as usize;
         block.fill(source, whole)?;
         if block.held().len() < whole {
+            // The bytes end inside the packet.
             break;
         }
         if lengths.captured < lengths.original {
@@ -92,7 +100,7 @@ fn read_body<T: ByteOrder, S: Source>(
     })
 }
 
-/// Does what [`read_body`] does, in this byte order.
+/// Does what [`read_body`] does, with numbers in this byte order.
 fn read_body_in<S: Source>(
     order: Endianness,
     alloc: Global,

@@ -87,7 +87,8 @@ impl RecordWriter {
     }
 
     /// Appends the packet of a frame of at most 1,518 bytes, at a time in microseconds. If the block has no room for
-    /// the packet, the bytes that wait are first written to the sink.
+    /// the packet, the bytes that wait are first written to the sink. `unit` must be that of the trace's file header;
+    /// no clause states this.
     ///
     /// # Errors
     ///
@@ -103,6 +104,7 @@ impl RecordWriter {
     ) -> Result<(), WriteError>
         requires countable { W.failures sink.old < u64.MAX }
         requires short { length frame.now ≤ 1518 }
+        // The bytes that the sink has taken, followed by the bytes that wait, grow by the packet.
         ensures ok { OnOk result
             (Appends (append_known (W.taken sink.old) self.old) (append_known (W.taken sink.new) self.new)
             (packet_of unit (record { time = time; frame = frame.now }))) }
@@ -111,6 +113,7 @@ impl RecordWriter {
         ensures kept { OnErr result (self.new ≡ self.old) }
         ensures failures { CountsFailures result (W.failures sink.old) (W.failures sink.new) }
     {
+        // If more bytes wait than this difference, the packet doesn't fit. A packet is shorter than a block.
         if BLOCK - PACKET_HEADER - frame.len() < self.end {
             self.flush(sink)?;
         }
@@ -118,7 +121,8 @@ impl RecordWriter {
         Ok(())
     }
 
-    /// Appends the packet of a frame of at most 1,518 bytes. The block must have room for the packet.
+    /// Appends the packet of a frame of at most 1,518 bytes to the bytes that wait. The block must have room for the
+    /// packet.
     #[inline(always)]
     fn append(&mut self, unit: Unit, time: u64, frame: &[u8])
         requires short { length frame.now ≤ 1518 }

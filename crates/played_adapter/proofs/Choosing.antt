@@ -8,7 +8,7 @@ use Rattle.rx_engine.specs.declared.arrival.Fate.{Fate}
 use Rattle.played_adapter.specs.Order.{ComposesHeard, Tells}
 use Rattle.played_adapter.specs.Playing.{FrameArrives, HappensAlone, Interleaves, NextArrives, OldestArrives, Paced, ReportsLine, after}
 use Rattle.played_adapter.specs.Requests.{AccessedAfter, ServesAccess}
-use Rattle.played_adapter.specs.Told.{Offered, Told}
+use Rattle.played_adapter.specs.Told.{OfferedArrived, Told}
 use Rattle.played_adapter.specs.declared.player.PlayedAdapter.{PlayedAdapter}
 use Rattle.played_adapter.proofs.Happening.{happened}
 use Rattle.played_adapter.proofs.Telling.{tells_both, tells_so}
@@ -25,12 +25,12 @@ module _ {O : Type 0} (heard : O → O → List Told → Type 0) (laws : Compose
 
   pub oldest_arrives : (frame : List ℕ) (later : List (List ℕ)) (fate : Fate) (a b : PlayedAdapter) (machine : MachineState)
       (before now end : O) → a.offered ≡ frame ∷ later → Occurs (Arrives frame fate) a.machine.world
-      → machine ≡ after_event (Arrives frame fate) a.machine → heard before now (Offered frame fate ∷ [])
+      → machine ≡ after_event (Arrives frame fate) a.machine → heard before now (OfferedArrived frame fate ∷ [])
       → Tells heard now end (ReportsLine (record a { machine = machine; offered = later }) b) → Tells heard before end (NextArrives a b)
   oldest_arrives frame later fate a b machine before now end some occurs state tells reports =
       tells_so heard (FrameArrives frame later fate a b) (NextArrives a b) before end
       (λ told arrives. subst (λ (offered : List (List ℕ)). OldestArrives offered a b told) (sym some) (fate, arrives))
-      (happened heard laws (Arrives frame fate) _ (Offered frame fate ∷ []) a
+      (happened heard laws (Arrives frame fate) _ (OfferedArrived frame fate ∷ []) a
       (after (Arrives frame fate) (record a { offered = later })) _ b before now end
       occurs (ap (λ (m : MachineState). record a { machine = m; offered = later }) state) tells refl reports)
 

@@ -9,7 +9,7 @@ use Rattle.played_adapter.specs.Kinds.{kind_numbered}
 abbrev pub drawn_kind : Lcg → StepKind × Lcg
 drawn_kind generator = let word = pcg32 generator in (kind_numbered (word.0 % 6), word.1)
 
--- the number of steps and arrivals before an access, up to a maximum, and the generator afterwards; if the maximum is 0, no word is used
+-- The number of steps and arrivals before an access, at most `most`, and the generator afterwards. If `most` is 0, no word is used.
 abbrev pub drawn_count : (most : ℕ) → Lcg → ℕ × Lcg
 drawn_count most generator =
     if most == 0 then (0, generator) else (let word = pcg32 generator in (word.0 % (most + 1), word.1))

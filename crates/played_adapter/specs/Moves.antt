@@ -60,9 +60,9 @@ tick_moves held a =
     (if is_pending adapter.eerd then default_move held.eeprom kinds.EepromTick HoldEeprom ∷ [] else [])
     ++ (if has_work adapter.mdic adapter.phy then default_move held.phy kinds.PhyTick HoldPhy ∷ [] else [])
 
--- the actions of an agenda that are due if an access of a target with this name, or a request with this first word, comes now
+-- the actions of an agenda that are due before an access of a target with this name, or a request with this first word
 abbrev pub due_in_agenda : Before → (name : Text) → AgendaState → List Action
-due_in_agenda before name agenda = due_before (coming before name agenda) agenda.waiting
+due_in_agenda before name agenda = due_before (coming before name agenda) agenda.deviations
 
 -- the moves of an agenda before an access: of the default steps, and then of the actions that are due
 abbrev pub access_moves : Before → (name : Text) → AgendaState → PlayedAdapter → List Move

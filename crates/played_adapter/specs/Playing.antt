@@ -29,7 +29,7 @@ use Rattle.played_adapter.specs.Choices.{drawn, step_action}
 use Rattle.played_adapter.specs.Draws.{drawn_count}
 use Rattle.played_adapter.specs.Order.{InOrder, Joins, Times}
 use Rattle.played_adapter.specs.Outcomes.{did, moved_by}
-use Rattle.played_adapter.specs.Told.{Arrived, Line, Noted, Offered, Stepped, Told}
+use Rattle.played_adapter.specs.Told.{Arrived, Line, Noted, OfferedArrived, Stepped, Told}
 use Rattle.played_adapter.specs.Told as tell
 use Rattle.played_adapter.specs.declared.choices.Choice.{Choice}
 use Rattle.played_adapter.specs.declared.choices.Choice.TheVariants.{Arrival, Step}
@@ -72,8 +72,8 @@ abbrev pub new_player : (memory : List ℕ) → AdapterState → Option Ptr → 
 new_player memory adapter address = new_with_room 64 4096 memory adapter address
 
 -- a new adapter whose frames don't wait on the wire, with no room for a scheduled step; the generator has this seed
-abbrev pub new_watched : (memory : List ℕ) → AdapterState → (seed : ℕ) → Option Ptr → PlayedAdapter
-new_watched memory adapter seed address =
+abbrev pub new_without_wire : (memory : List ℕ) → AdapterState → (seed : ℕ) → Option Ptr → PlayedAdapter
+new_without_wire memory adapter seed address =
     record (new_with_room 0 0 memory adapter address) { keeps_put = false; generator = pcg32_of_seed (pcg32_seed 16 seed) }
 
 -- the adapter after it has reported the level of its interrupt line
@@ -123,7 +123,7 @@ Arrives frame fate a b told = HappensTold (event.Arrives frame fate) (Arrived fr
 
 -- An offered frame arrives with this fate, and the later frames still wait.
 abbrev pub FrameArrives : (frame : List ℕ) → (later : List (List ℕ)) → Fate → PlayedAdapter → PlayedAdapter → List Told → Type 0
-FrameArrives frame later fate a b told = HappensTold (event.Arrives frame fate) (Offered frame fate ∷ [])
+FrameArrives frame later fate a b told = HappensTold (event.Arrives frame fate) (OfferedArrived frame fate ∷ [])
     (after (event.Arrives frame fate) (record a { offered = later })) a b told
 
 -- The oldest of these frames arrives, if there is one.

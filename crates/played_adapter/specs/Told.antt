@@ -14,7 +14,7 @@ pub data Told : Type 0 where
   -- a frame that arrived without being offered, and its fate
   Arrived : (frame : List ℕ) → Fate → Told
   -- an offered frame that arrived, and its fate
-  Offered : (frame : List ℕ) → Fate → Told
+  OfferedArrived : (frame : List ℕ) → Fate → Told
   -- an access; of a load, the address and the number of bytes
   Accessed : Access → Told
   -- the new level of the interrupt line

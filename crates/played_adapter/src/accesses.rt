@@ -11,7 +11,7 @@ use crate::observer::Observer;
 use crate::player::PlayedAdapter;
 use adapter::StepKind;
 
-/// The ticks that are played before an access.
+/// The ticks that are played before an access if ticks are on.
 const TICKS: [StepKind; 2] = [StepKind::EepromTick, StepKind::PhyTick];
 
 impl PlayedAdapter {
@@ -32,8 +32,8 @@ impl PlayedAdapter {
         self.accesses = self.accesses.saturating_add(1);
     }
 
-    /// Returns whether ticks are off, no steps are drawn, and no step is scheduled. If so, no step is played before the
-    /// next access. The clause states nothing about the result `false`.
+    /// Returns whether ticks are off, no steps are drawn, and no step is scheduled. If so, nothing is played before the
+    /// next access. If not, there may still be nothing to play, so the clause states nothing about the result `false`.
     #[inline(always)]
     fn is_quiet(&self) -> bool
         ensures { result ≡ true →
@@ -42,7 +42,8 @@ impl PlayedAdapter {
         !self.ticks && self.most_steps == 0 && self.scheduled.is_empty()
     }
 
-    /// Plays the steps before an access, and counts the access.
+    /// Plays the steps and arrivals before an access, and counts the access. Only the test and the count are inlined,
+    /// so that an access with nothing to play before it is short.
     #[inline(always)]
     fn prepare<O: Observer>(&mut self, observer: &mut O)
         ensures { Tells O.heard observer.old observer.new (Prepares self.old self.new) }
@@ -54,7 +55,8 @@ impl PlayedAdapter {
         self.prepare_steps(observer);
     }
 
-    /// Does what [`prepare`](PlayedAdapter::prepare) does, without the test whether there are steps to play.
+    /// Plays the ticks if they are on, the scheduled steps that are due, and what the generator draws, in this order.
+    /// Then counts the access. This is [`prepare`](PlayedAdapter::prepare) without its test.
     #[inline(never)]
     fn prepare_steps<O: Observer>(&mut self, observer: &mut O)
         ensures { Tells O.heard observer.old observer.new (Prepares self.old self.new) }
@@ -86,8 +88,8 @@ impl PlayedAdapter {
         self.report(observer);
     }
 
-    /// Loads bytes from memory, and reports the load and then a change of the interrupt line, if there is one. Memory
-    /// must contain all of these bytes.
+    /// Fills `into` with the bytes of memory from an address on. Reports the load, and then a change of the interrupt
+    /// line, if there is one. Memory must contain all of these bytes.
     pub(crate) fn load_now<O: Observer>(&mut self, address: u64, into: &mut [u8], observer: &mut O)
         requires { address + length into.old ≤ length self.old.machine.world.memory }
         ensures tells { Tells O.heard observer.old observer.new
@@ -99,8 +101,8 @@ impl PlayedAdapter {
         self.report(observer);
     }
 
-    /// Stores bytes in memory, and reports the store and then a change of the interrupt line, if there is one. Memory
-    /// must contain all of their places.
+    /// Stores bytes in memory from an address on. Reports the store, and then a change of the interrupt line, if there
+    /// is one. Memory must contain all of their places.
     pub(crate) fn store_now<O: Observer>(&mut self, address: u64, bytes: &[u8], observer: &mut O)
         requires { address + length bytes.now ≤ length self.old.machine.world.memory }
         ensures { Tells O.heard observer.old observer.new (HappensAlone (Stores address bytes.now) self.old self.new) }
@@ -110,8 +112,8 @@ impl PlayedAdapter {
         self.report(observer);
     }
 
-    /// Plays the steps before an access, and reads the register at an offset in bytes. Returns 0 if no register has
-    /// this offset.
+    /// Plays the steps and arrivals before an access, counts the access, and reads the register at an offset in bytes.
+    /// Returns 0 if no register has this offset.
     #[inline(always)]
     pub fn read<O: Observer>(&mut self, offset: u32, observer: &mut O) -> u32
         ensures { Tells O.heard observer.old observer.new (Accessed (Reads offset result) self.old self.new) }
@@ -123,7 +125,7 @@ impl PlayedAdapter {
         self.read_after_steps(offset, observer)
     }
 
-    /// Does what [`read`](PlayedAdapter::read) does, without the test whether there are steps to play.
+    /// Does what [`read`](PlayedAdapter::read) does, without its test. It isn't inlined, so that `read` remains short.
     #[inline(never)]
     fn read_after_steps<O: Observer>(&mut self, offset: u32, observer: &mut O) -> u32
         ensures { Tells O.heard observer.old observer.new (Accessed (Reads offset result) self.old self.new) }
@@ -132,8 +134,8 @@ impl PlayedAdapter {
         self.read_now(offset, observer)
     }
 
-    /// Plays the steps before an access, and writes the register at an offset in bytes. If no register has this offset,
-    /// the write does nothing.
+    /// Plays the steps and arrivals before an access, counts the access, and writes the register at an offset in bytes.
+    /// If no register has this offset, the write does nothing.
     #[inline(always)]
     pub fn write<O: Observer>(&mut self, offset: u32, value: u32, observer: &mut O)
         ensures { Tells O.heard observer.old observer.new (Accessed (Writes offset value) self.old self.new) }
@@ -146,7 +148,8 @@ impl PlayedAdapter {
         self.write_after_steps(offset, value, observer);
     }
 
-    /// Does what [`write`](PlayedAdapter::write) does, without the test whether there are steps to play.
+    /// Does what [`write`](PlayedAdapter::write) does, without its test. It isn't inlined, so that `write` remains
+    /// short.
     #[inline(never)]
     fn write_after_steps<O: Observer>(&mut self, offset: u32, value: u32, observer: &mut O)
         ensures { Tells O.heard observer.old observer.new (Accessed (Writes offset value) self.old self.new) }
@@ -160,10 +163,12 @@ impl PlayedAdapter {
         ensures { result ≡ has_bytes self.now address count }
     {
         let size = self.machine.size();
+        // `address + count` could overflow.
         count <= size && address <= size - count
     }
 
-    /// Plays the steps before an access, and fills `into` with the bytes of memory from an address on. Returns `true`.
+    /// Plays the steps and arrivals before an access, counts the access, and fills `into` with the bytes of memory from
+    /// an address on. Returns `true`.
     ///
     /// If some of these bytes are outside memory, returns `false`, and nothing happens.
     pub fn load<O: Observer>(&mut self, address: u64, into: &mut [u8], observer: &mut O) -> bool
@@ -178,7 +183,8 @@ impl PlayedAdapter {
         true
     }
 
-    /// Plays the steps before an access, and stores bytes in memory from an address on. Returns `true`.
+    /// Plays the steps and arrivals before an access, counts the access, and stores bytes in memory from an address on.
+    /// Returns `true`.
     ///
     /// If some of these places are outside memory, returns `false`, and nothing happens.
     pub fn store<O: Observer>(&mut self, address: u64, bytes: &[u8], observer: &mut O) -> bool

@@ -13,7 +13,7 @@ use crate::player::PlayedAdapter;
 use adapter::StepKind;
 use step_schedules::{Action, Agenda, Before, Event, Held, Waiting};
 
-/// Returns the moves of an action, at most two. A hold and a chosen number have no moves.
+/// Returns the moves of an action, in order. An action has at most two moves; a hold and a chosen number have no moves.
 fn moves_of(action: Action) -> (Option<Move>, Option<Move>)
     ensures { spec.listed result.0 ++ spec.listed result.1 ≡ spec.moves_of action }
 {
@@ -37,7 +37,7 @@ fn moves_of(action: Action) -> (Option<Move>, Option<Move>)
     }
 }
 
-/// Returns the move of a default step that has work: its hold if the step is held, else the step.
+/// Returns the move of a default step of this kind that has work: the action `hold` if the step is held, else the step.
 fn default_move(is_held: bool, kind: StepKind, hold: Action) -> Move
     ensures { result ≡ spec.default_move is_held kind hold }
 {
@@ -83,8 +83,8 @@ impl PlayedAdapter {
         }
     }
 
-    /// Plays the moves of the default steps: a held step's hold, else the step. A step that has no work before the
-    /// first move has no move.
+    /// Plays the moves of the default steps of the EEPROM and of the PHY, in this order. A step that has work has a
+    /// move: its hold if the step is held, else the step. Both tests for work precede the first move.
     fn make_ticks<O: Observer>(&mut self, held: Held, observer: &mut O)
         ensures { Tells O.heard observer.old observer.new
             (InOrder Makes (spec.tick_moves held self.old) self.old self.new) }
@@ -97,6 +97,7 @@ impl PlayedAdapter {
     }
 
     /// Plays the actions that are due before an access or a request that comes now, in the order of the schedule.
+    /// `waiting` are all deviations of the schedule. Actions without moves, such as holds, do nothing.
     fn make_due<O: Observer>(&mut self, waiting: &[Waiting], event: &Event<'_>, observer: &mut O)
         ensures { Tells O.heard observer.old observer.new (InOrder Makes
             (flat_map spec.moves_of (due_before (event_value event.now) (map waiting_value waiting.now)))
@@ -108,7 +109,7 @@ impl PlayedAdapter {
     }
 
     /// Plays the moves of the default steps, and then of the due actions, before an access of this kind, whose target
-    /// has this name. The agenda counts the access.
+    /// has this name. Then the agenda counts the access. The caller makes the access afterwards.
     pub fn meet_access<O: Observer>(
         &mut self,
         agenda: &mut Agenda,
@@ -122,12 +123,12 @@ impl PlayedAdapter {
     {
         let event = agenda.coming(before, name);
         self.make_ticks(agenda.held(&event), observer);
-        self.make_due(agenda.waiting(), &event, observer);
+        self.make_due(agenda.deviations(), &event, observer);
         agenda.count(&event);
     }
 
-    /// Plays the moves of the actions that are due before a request of this kind, with this first word. The agenda
-    /// counts the request.
+    /// Plays the moves of the actions that are due before a request of this kind, with this first word. Then the agenda
+    /// counts the request. The caller serves the request afterwards. No default step precedes a request.
     pub fn meet_request<O: Observer>(
         &mut self,
         agenda: &mut Agenda,
@@ -140,7 +141,7 @@ impl PlayedAdapter {
         ensures met { agenda.new ≡ spec.met before name.now agenda.old }
     {
         let event = agenda.coming(before, name);
-        self.make_due(agenda.waiting(), &event, observer);
+        self.make_due(agenda.deviations(), &event, observer);
         agenda.count(&event);
     }
 }

@@ -38,7 +38,7 @@ pub enum Move {
     Play(Choice),
 }
 
-/// Returns the choice with this number, from 0 to 6.
+/// Returns the choice with this number: an arrival for 6, else a step of the kind with this number.
 fn choice_numbered(number: u32) -> Choice
     ensures { result ≡ spec.choice_numbered number }
 {
@@ -49,7 +49,7 @@ fn choice_numbered(number: u32) -> Choice
     }
 }
 
-/// Returns the action that plays a step of this kind.
+/// Returns the action of a schedule that plays a step of this kind.
 fn step_action(kind: StepKind) -> Action
     ensures { result ≡ spec.step_action kind }
 {
@@ -64,7 +64,7 @@ fn step_action(kind: StepKind) -> Action
 }
 
 impl PlayedAdapter {
-    /// Reports an action to the observer if `did` is true.
+    /// Reports an action to the observer if `did` is true: the action did something. The adapter isn't used.
     pub(crate) fn note<O: Observer>(&self, did: bool, action: Action, observer: &mut O)
         ensures { O.heard observer.old observer.new (noted did action) }
     {
@@ -73,8 +73,8 @@ impl PlayedAdapter {
         }
     }
 
-    /// Draws a choice with the generator's next word: a step if no frame is offered, else a step or the arrival of the
-    /// oldest offered frame.
+    /// Draws a choice with the generator's next word. If no frame is offered, the choice is a step, else a step or the
+    /// arrival of the oldest offered frame.
     pub(crate) fn draw(&mut self) -> Choice
         ensures choice { result ≡ (drawn self.old.offered self.old.generator).0 }
         ensures state { self.new ≡ drawn_from self.old }
@@ -96,11 +96,11 @@ impl PlayedAdapter {
         };
         let bytes = frame.as_slice();
         let fate = self.machine.arrive(bytes);
-        observer.offered(bytes, fate);
+        observer.offered_arrived(bytes, fate);
         self.report(observer);
     }
 
-    /// Delivers all offered frames, the oldest first.
+    /// Delivers all offered frames, the oldest first, and reports each arrival.
     pub fn deliver_all<O: Observer>(&mut self, observer: &mut O)
         ensures { Tells O.heard observer.old observer.new (AllArrive self.old self.new) }
     {
@@ -110,17 +110,17 @@ impl PlayedAdapter {
         }
     }
 
-    /// Plays a step, and then reports its action to the observer if the step did something.
-    fn choose_step<O: Observer>(&mut self, kind: StepKind, observer: &mut O)
+    /// Plays a chosen step, and then reports its action to the observer if the step did something.
+    fn play_chosen_step<O: Observer>(&mut self, kind: StepKind, observer: &mut O)
         ensures { Tells O.heard observer.old observer.new (StepChosen kind self.old self.new) }
     {
         let outcome = self.step(kind, observer);
         self.note(did(outcome), step_action(kind), observer);
     }
 
-    /// Delivers the oldest offered frame, and then reports the action `Arrive` to the observer. If no frame is offered,
-    /// nothing happens.
-    fn choose_arrival<O: Observer>(&mut self, observer: &mut O)
+    /// Plays a chosen arrival: delivers the oldest offered frame, and then reports the action `Arrive` to the observer.
+    /// If no frame is offered, nothing happens.
+    fn play_chosen_arrival<O: Observer>(&mut self, observer: &mut O)
         ensures { Tells O.heard observer.old observer.new (ArrivalChosen self.old self.new) }
     {
         let is_offered = !self.offered.is_empty();
@@ -128,17 +128,17 @@ impl PlayedAdapter {
         self.note(is_offered, Action::Arrive, observer);
     }
 
-    /// Plays a choice.
+    /// Plays a choice, and then reports its action to the observer if the choice did something.
     pub(crate) fn choose<O: Observer>(&mut self, choice: Choice, observer: &mut O)
         ensures { Tells O.heard observer.old observer.new (Chosen choice self.old self.new) }
     {
         match choice {
-            Choice::Step(kind) => self.choose_step(kind, observer),
-            Choice::Arrival => self.choose_arrival(observer),
+            Choice::Step(kind) => self.play_chosen_step(kind, observer),
+            Choice::Arrival => self.play_chosen_arrival(observer),
         }
     }
 
-    /// Plays a move.
+    /// Plays a move: a default step, of which no action is reported; a hold, which is only reported; or a choice.
     pub(crate) fn make<O: Observer>(&mut self, next: Move, observer: &mut O)
         ensures { Tells O.heard observer.old observer.new (Makes next self.old self.new) }
     {

@@ -10,7 +10,8 @@ use descriptors::copy_of;
 use rand_pcg::Lcg64Xsh32;
 use std::alloc::AllocError;
 
-/// Returns a copy of the adapter and its memory. Fails only if memory was refused.
+/// Returns a copy of the adapter and its memory. Fails only if memory was refused. This is `clone`, with a clause that
+/// states what a copy is.
 fn copy_of_machine(machine: &Machine) -> Result<Machine, AllocError>
     ensures { IfOk result (λ copy. copy ≡ machine.now) }
 {
@@ -18,7 +19,8 @@ fn copy_of_machine(machine: &Machine) -> Result<Machine, AllocError>
 }
 
 impl PlayedAdapter {
-    /// Returns copies of the frames on the wire, the offered frames and the scheduled steps.
+    /// Returns copies of the frames on the wire, the offered frames and the scheduled steps. Fails only if memory was
+    /// refused.
     fn copy_queues(&self) -> Result<Queues, AllocError>
         ensures wire { IfOk result (λ queues. queues.wire ≡ self.now.wire) }
         ensures offered { IfOk result (λ queues. queues.offered ≡ self.now.offered) }
@@ -35,7 +37,7 @@ impl PlayedAdapter {
     }
 
     /// Returns the same adapter with this machine, these frames and scheduled steps, and this generator. The level of
-    /// the interrupt line counts as reported.
+    /// the interrupt line counts as reported. The clause states nothing about the address of memory.
     fn with_copies(&self, machine: Machine, queues: Queues, generator: Lcg64Xsh32) -> PlayedAdapter
         ensures { result ≡ record self.now {
           machine = record machine { reported = is_asserted machine.world.adapter };
@@ -46,6 +48,7 @@ impl PlayedAdapter {
           scheduled = queues.scheduled;
         } }
     {
+        // The parts make a new machine, because the level of a new machine's line counts as reported.
         let (adapter, memory) = machine.into_parts();
         let address = address_of(&memory);
         PlayedAdapter {

@@ -33,8 +33,8 @@ pub(crate) fn kind_numbered(number: u32) -> StepKind
 }
 
 impl PlayedAdapter {
-    /// Sets the maximum number of steps and arrivals that are drawn before each access, and replaces the generator by
-    /// one with this seed, expanded to 16 bytes. If `most` is 0, nothing is drawn.
+    /// Sets the maximum number of steps and arrivals that are drawn before each access. If `most` is 0, nothing is
+    /// drawn. Replaces the generator by one with this seed, expanded to 16 bytes.
     pub fn interleave(&mut self, most: u16, seed: u64)
         ensures { self.new ≡ record self.old { generator = pcg32_of_seed (pcg32_seed 16 seed); most_steps = most } }
     {
@@ -51,8 +51,8 @@ impl PlayedAdapter {
         kind_numbered(word % KINDS)
     }
 
-    /// Draws a number of steps and arrivals, at most `most_steps`, with the generator's next word. If `most_steps` is
-    /// 0, returns 0 and takes no word.
+    /// Draws the number of steps and arrivals before an access, at most `most_steps`, with the generator's next word.
+    /// If `most_steps` is 0, returns 0 and takes no word.
     fn draw_count(&mut self) -> u64
         ensures count { result ≡ (drawn_count self.old.most_steps self.old.generator).0 }
         ensures state { self.new ≡
@@ -79,7 +79,8 @@ impl PlayedAdapter {
         word % limit
     }
 
-    /// Plays the steps and arrivals that the generator draws before an access.
+    /// Plays the steps and arrivals that the generator draws before an access. Their number is drawn first, and then
+    /// each of them right before it is played.
     pub(crate) fn interleave_steps<O: Observer>(&mut self, observer: &mut O)
         ensures { Tells O.heard observer.old observer.new (Interleaves self.old self.new) }
     {

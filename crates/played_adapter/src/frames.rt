@@ -23,7 +23,7 @@ impl Model for WaitingFrame {
 impl Clone for WaitingFrame {
     ghost is_clone = { λ frame copy. copy ≡ frame };
 
-    /// Returns the same bytes. Fails only if memory was refused.
+    /// Returns a frame with the same bytes. Fails only if memory was refused.
     fn clone(&self) -> Result<WaitingFrame, AllocError> {
         Ok(WaitingFrame {
             bytes: self.bytes.clone()?,
@@ -32,7 +32,7 @@ impl Clone for WaitingFrame {
 }
 
 impl WaitingFrame {
-    /// Returns a copy of these bytes. Fails only if memory was refused.
+    /// Returns a frame with a copy of these bytes. Fails only if memory was refused.
     fn copy_of(alloc: Global, bytes: &[u8]) -> Result<WaitingFrame, AllocError>
         ensures { IfOk result (λ frame. frame ≡ bytes.now) }
     {
@@ -98,19 +98,12 @@ impl Frames {
     }
 
     /// Adds a copy of a frame after all others. If memory is refused, nothing changes.
-    pub fn try_push(&mut self, alloc: Global, frame: &[u8]) -> Result<(), AllocError>
+    pub fn push(&mut self, alloc: Global, frame: &[u8]) -> Result<(), AllocError>
         ensures ok { OnOk result (self.new ≡ self.old ++ frame.now ∷ []) }
         ensures err { OnErr result (self.new ≡ self.old) }
     {
         self.frames.push_back(WaitingFrame::copy_of(alloc, frame)?)?;
         Ok(())
-    }
-
-    /// Adds a copy of a frame after all others. Fails only if memory was refused.
-    pub fn push(&mut self, alloc: Global, frame: &[u8]) -> Result<(), AllocError>
-        ensures { OnOk result (self.new ≡ self.old ++ frame.now ∷ []) }
-    {
-        self.try_push(alloc, frame)
     }
 
     /// Removes and returns the oldest frame, or returns `None` if there is no frame.

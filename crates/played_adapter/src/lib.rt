@@ -1,8 +1,8 @@
 //! An 82540EM that is played: the adapter, its host's memory and its wire, and the steps before accesses.
 //!
 //! The caller of a [`PlayedAdapter`] chooses its steps and arrivals, or lets a generator or a schedule choose them. An
-//! [`Observer`] is told what happens. Nothing is printed. Only `new`, `watched`, `copy` and a push of an offered frame
-//! allocate.
+//! [`Observer`] is told what happens. Nothing is printed. Only `new`, `without_wire`, `copy` and a push of an offered
+//! frame allocate.
 #![tactic(auto)]
 
 mod accesses;

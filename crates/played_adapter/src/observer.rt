@@ -30,13 +30,14 @@ pub trait Observer {
         requires fits { length frame.now ≤ longest_frame }
         ensures { heard self.old self.new (told.Stepped kind (with_frame frame.now outcome) fault ∷ []) };
 
-    /// A frame that wasn't offered arrived, and had this fate.
+    /// A frame that didn't wait in the queue `offered` arrived, and had this fate.
     fn arrived(&mut self, frame: &[u8], fate: Fate)
         ensures { heard self.old self.new (told.Arrived frame.now fate ∷ []) };
 
-    /// An offered frame arrived, and had this fate.
-    fn offered(&mut self, frame: &[u8], fate: Fate)
-        ensures { heard self.old self.new (told.Offered frame.now fate ∷ []) };
+    /// A frame that waited in the queue `offered` of the [`PlayedAdapter`](crate::PlayedAdapter) arrived, and had this
+    /// fate.
+    fn offered_arrived(&mut self, frame: &[u8], fate: Fate)
+        ensures { heard self.old self.new (told.OfferedArrived frame.now fate ∷ []) };
 
     /// The register at an offset was read as this value.
     fn read(&mut self, offset: u32, value: u32)

@@ -1,7 +1,8 @@
 // The adapter that is played.
 
 ghost use Rattle.std.specs.Prelude.{◌≡◌, IfOk};
-ghost use Rattle.played_adapter.specs.Playing.{empty_queues, new_player, new_watched, new_with_queues, new_with_room};
+ghost use Rattle.played_adapter.specs.Playing.{empty_queues, new_player, new_with_queues, new_with_room};
+ghost use Rattle.played_adapter.specs.Playing.{new_without_wire};
 
 use crate::frames::Frames;
 use crate::scheduling::{MOST_SCHEDULED, ScheduledStep};
@@ -45,7 +46,7 @@ pub struct PlayedAdapter {
     pub ticks: bool,
 }
 
-/// The frames and steps that wait.
+/// The frames and steps that wait, in the fields of [`PlayedAdapter`] with these names.
 #[derive(Drop)]
 pub(crate) struct Queues {
     pub(crate) wire: FrameQueue,
@@ -54,7 +55,8 @@ pub(crate) struct Queues {
 }
 
 impl Queues {
-    /// Returns empty queues, with room for this many frames on the wire, and for this many scheduled steps.
+    /// Returns empty queues, with room for `frames` frames on the wire, and for `steps` scheduled steps. Fails only if
+    /// memory was refused.
     fn new(alloc: Global, frames: u8, steps: usize) -> Result<Queues, AllocError>
         ensures { IfOk result (λ queues. queues ≡ empty_queues frames steps) }
     {
@@ -78,8 +80,8 @@ pub(crate) fn address_of(memory: &HostMemory) -> Option<*const u8> {
 }
 
 impl PlayedAdapter {
-    /// Returns this adapter with this memory, and these frames and steps that wait. No step is played before or after
-    /// an access. The generator has the seed 0.
+    /// Returns this adapter with this memory, and these frames and steps that wait. Apart from these steps, no step is
+    /// played before or after an access. The generator has the seed 0. The clause states nothing about the address.
     #[tactic(auto, unfolding(crate::specs::Playing::new_with_queues))]
     fn with_queues(adapter: Adapter, memory: HostMemory, queues: Queues) -> PlayedAdapter
         ensures { result ≡ new_with_queues queues memory adapter result.address }
@@ -101,8 +103,9 @@ impl PlayedAdapter {
         }
     }
 
-    /// Returns this adapter with this memory. Its wire is empty, with room for this many frames. No step is scheduled,
-    /// with room for this many. No frame is offered, and no step is played before or after an access.
+    /// Returns this adapter with this memory. Its wire is empty, and has room for `frames` frames. No step is
+    /// scheduled, and there is room for `steps` steps. No frame is offered, and no step is played before or after an
+    /// access. Fails only if memory was refused.
     fn with_room(
         alloc: Global,
         adapter: Adapter,
@@ -133,20 +136,21 @@ impl PlayedAdapter {
         PlayedAdapter::with_room(alloc, adapter, memory, WIRE_FRAMES, MOST_SCHEDULED)
     }
 
-    /// Returns an adapter as [`new`](PlayedAdapter::new) does, but frames that are put don't wait, and no step can be
-    /// scheduled. The generator has this seed.
+    /// Returns an adapter as [`new`](PlayedAdapter::new) does, for a caller whose observer takes the frames that are
+    /// put. So these frames don't wait on the wire. No step can be scheduled. The generator has this seed.
     ///
     /// # Errors
     ///
     /// If memory is refused.
-    pub fn watched(
+    pub fn without_wire(
         alloc: Global,
         adapter: Adapter,
         memory: HostMemory,
         seed: u64,
     ) -> Result<PlayedAdapter, AllocError>
-        ensures { IfOk result (λ player. player ≡ new_watched memory adapter seed player.address) }
+        ensures { IfOk result (λ player. player ≡ new_without_wire memory adapter seed player.address) }
     {
+        // No room for frames on the wire, or for scheduled steps.
         let mut player = PlayedAdapter::with_room(alloc, adapter, memory, 0, 0)?;
         player.keeps_put = false;
         player.generator = Lcg64Xsh32::seed_from_u64(seed);

@@ -1,5 +1,5 @@
 // Calls for requests of the server. The C library also calls `serve_settle` and `serve_choose`. Cycles are played until
-// one does nothing, up to a maximum.
+// one does nothing, up to a maximum. No call plays ticks or scheduled steps, or counts an access.
 
 ghost use Rattle.std.specs.Prelude.{◌<◌, IsTrue, length};
 ghost use Rattle.bus.specs.declared.event.Access.TheVariants.{Reads, Stores, Writes};
@@ -15,7 +15,7 @@ use adapter::Fate;
 use step_schedules::Action;
 
 impl PlayedAdapter {
-    /// Plays cycles until one does nothing, up to the maximum `pace`.
+    /// Plays cycles until one does nothing, up to `pace` cycles.
     fn pace_cycles<O: Observer>(&mut self, observer: &mut O)
         ensures { Tells O.heard observer.old observer.new (Paced self.old self.new) }
     {

@@ -24,8 +24,8 @@ impl PlayedAdapter {
     /// Schedules a step of this kind, after all steps that are scheduled already.
     ///
     /// The step is played before the next access with a number of at least `access`, but not before the steps scheduled
-    /// earlier. If there is no room for another step, returns `false` and changes nothing. An adapter made by `watched`
-    /// has no room for any step.
+    /// earlier. If there is no room for another step, returns `false` and changes nothing. An adapter made by
+    /// `without_wire` has no room for any step.
     pub fn schedule(&mut self, access: u64, kind: StepKind) -> bool
         ensures { AnswersSchedule access kind result self.old self.new }
     {
@@ -52,8 +52,8 @@ impl PlayedAdapter {
         Some(step)
     }
 
-    /// Plays and removes the scheduled steps that are due before the next access, in order. From the front, these are
-    /// the steps before the first step for a later access. Reports each step to the observer.
+    /// Removes and plays the scheduled steps that are due before the next access, in order. These are the steps in
+    /// front of the first step for a later access. Reports each step to the observer.
     pub(crate) fn play_scheduled<O: Observer>(&mut self, observer: &mut O)
         ensures { Tells O.heard observer.old observer.new (InOrder PlaysScheduled (due_in self.old) self.old self.new) }
     {

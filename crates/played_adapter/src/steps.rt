@@ -57,7 +57,7 @@ impl PlayedAdapter {
         }
     }
 
-    /// Returns the fault of the step that was just taken, or `None` if its outcome isn't a fault.
+    /// Returns the fault of the step of this kind that was just taken, or `None` if its outcome isn't a fault.
     fn fault_told(&self, kind: StepKind, outcome: Outcome<()>) -> Option<EngineFault>
         ensures { result ≡ fault_told kind outcome self.now.machine.world }
     {
@@ -67,8 +67,8 @@ impl PlayedAdapter {
         }
     }
 
-    /// Makes the adapter take a step, and returns the step's outcome. If `keeps_put` is set, a frame that the step puts
-    /// is then on the wire.
+    /// Makes the adapter take a step, and returns the step's outcome. If `keeps_put` is set, a copy of a frame that the
+    /// step puts is then on the wire. Reports nothing.
     #[inline(always)]
     fn take_step(&mut self, kind: StepKind) -> Outcome<()>
         ensures occurs { Occurs (step_of kind result self.old) self.old.machine.world }
@@ -127,8 +127,8 @@ impl PlayedAdapter {
         outcome
     }
 
-    /// Delivers a frame to the adapter. Reports the arrival, and then a change of the interrupt line, if there is one.
-    /// Returns the frame's fate.
+    /// Delivers a frame that wasn't offered. Reports the arrival, and then a change of the interrupt line, if there is
+    /// one. Returns the frame's fate.
     pub fn arrive<O: Observer>(&mut self, frame: &[u8], observer: &mut O) -> Fate
         ensures { Tells O.heard observer.old observer.new (Arrives frame.now result self.old self.new) }
     {

@@ -32,7 +32,7 @@ enum Opened<F> {
     Piped(Vec<u8>),
 }
 
-/// Reads at most `limit` bytes of the input at a path.
+/// Reads at most `limit` bytes of an input. The error of a failed read contains `path`, the path of the input.
 fn read_up_to<S: Read + Drop>(
     alloc: Global,
     path: &str,
@@ -47,7 +47,8 @@ fn read_up_to<S: Read + Drop>(
     }
 }
 
-/// Reads standard input or a pipe to its end. Fails if there are more than [`MOST_PIPED`] bytes.
+/// Reads standard input or a pipe to its end. Fails if there are more than [`MOST_PIPED`] bytes. The error of a failed
+/// read contains `path`.
 fn read_pipe<S: Read + Drop>(alloc: Global, path: &str, reader: S) -> Result<Vec<u8>, FileError> {
     // One byte more shows that the input is too long.
     let bytes = read_up_to(alloc, path, reader, MOST_PIPED + 1)?;
@@ -57,7 +58,7 @@ fn read_pipe<S: Read + Drop>(alloc: Global, path: &str, reader: S) -> Result<Vec
     Ok(bytes)
 }
 
-/// Opens a path, and returns the file and its metadata.
+/// Opens a path for reading, and returns the file and its metadata.
 fn open_path<R: Files + AllocGlobal>(rt: &R, path: &str) -> Result<(R::File, Metadata), FileError> {
     let Ok(file) = fs::open(rt, path) else {
         return Err(FileError::open(rt.alloc(), path));
@@ -91,8 +92,8 @@ fn kind_of(metadata: &Metadata) -> Kind {
     }
 }
 
-/// Opens an input with a path. A pipe is read to its end. A folder is refused, and so is a device, which may have no
-/// end.
+/// Opens the input at a path that isn't `-`. A pipe is read to its end. A folder is refused, and so is a device, which
+/// may have no end.
 fn open_input<R: Files + AllocGlobal>(rt: &R, path: &str) -> Result<Opened<R::File>, FileError> {
     let (file, metadata) = open_path(rt, path)?;
     match kind_of(&metadata) {
@@ -103,7 +104,7 @@ fn open_input<R: Files + AllocGlobal>(rt: &R, path: &str) -> Result<Opened<R::Fi
     }
 }
 
-/// Opens an input. Standard input is read to its end.
+/// Opens the input at a path. The path `-` means standard input, which is read to its end, as a pipe is.
 fn open<R: Files + Input + AllocGlobal>(rt: &R, path: &str) -> Result<Opened<R::File>, FileError> {
     if path == STANDARD_STREAM {
         Ok(Opened::Piped(read_pipe(rt.alloc(), path, rt.reader())?))
@@ -112,7 +113,7 @@ fn open<R: Files + Input + AllocGlobal>(rt: &R, path: &str) -> Result<Opened<R::
     }
 }
 
-/// Reads a trace from an input that was opened.
+/// Reads a trace from an input that was opened. Reports the progress of a long file.
 fn trace_of<R: Watched + Files + AllocGlobal>(
     rt: &R,
     input: Opened<R::File>,
@@ -126,7 +127,8 @@ fn trace_of<R: Watched + Files + AllocGlobal>(
     }
 }
 
-/// Reads a trace from the input at a path.
+/// Reads a trace from the input at a path, or from standard input if the path is `-`. Reports the progress of a long
+/// file.
 pub fn read_trace<R: Files + Input + Watched + AllocGlobal>(
     rt: &R,
     path: &str,
@@ -138,7 +140,8 @@ pub fn read_trace<R: Files + Input + Watched + AllocGlobal>(
     }
 }
 
-/// Reads all bytes of an input. Bytes that are appended after a file was opened aren't read.
+/// Reads all bytes of the input at a path, or of standard input if the path is `-`. Bytes that are appended after a
+/// file was opened aren't read. Fails with [`Pipe`](FileError::Pipe) if standard input or a pipe is too long.
 pub fn read_bytes<R: Files + Input + AllocGlobal>(
     rt: &R,
     path: &str,
@@ -149,7 +152,8 @@ pub fn read_bytes<R: Files + Input + AllocGlobal>(
     }
 }
 
-/// Reads the first bytes of a file, up to a limit, or all bytes of standard input or of a pipe.
+/// Reads the first `limit` bytes of the file at a path, or all bytes of a shorter file. `limit` doesn't apply to
+/// standard input (`-`) and pipes, which are read as by [`read_bytes`].
 pub fn read_front<R: Files + Input + AllocGlobal>(
     rt: &R,
     path: &str,
@@ -199,16 +203,16 @@ pub fn create_file<R: Files + AllocGlobal>(
     }
 }
 
-/// Opens a file as a sink. A file that doesn't exist is created; an existing file keeps its bytes until the first new
-/// byte is written.
+/// Opens a file as a sink, whose count of failures is 0. A file that doesn't exist is created; an existing file keeps
+/// its bytes until the first new byte is written.
 pub fn create<R: Files + AllocGlobal>(rt: &R, path: &str) -> Result<FileSink<R::File>, FileError>
     ensures { IfOk result (λ sink. ⟦<FileSink<R::File> as Sink>⟧.failures sink ≡ 0) }
 {
     Ok(WriterSink::new(create_file(rt, path)?))
 }
 
-/// Opens or creates a file with this name in a folder, as a sink. Refuses a name with a slash: its file would be in
-/// another folder.
+/// Opens or creates a file with this name in a folder, as a sink, whose count of failures is 0. Refuses a name with a
+/// slash: its file would be in another folder.
 fn create_in<R: Files + AllocGlobal>(
     rt: &R,
     directory: &str,
@@ -230,6 +234,7 @@ pub fn create_all<R: Files + AllocGlobal>(
     names: &[String],
 ) -> Result<Vec<FileSink<R::File>>, FileError>
     ensures count { IfOk result (λ sinks. length sinks.items ≡ length names.now) }
+    // Each sink's count of failures is 0.
     ensures countable { IfOk result (λ sinks.
         All (λ sink. ⟦<FileSink<R::File> as Sink>⟧.failures sink ≡ 0) sinks.items) }
 {
@@ -256,8 +261,8 @@ fn metadata_of<R: Files>(rt: &R, path: &str) -> io::Result<Metadata> {
     fs::metadata(rt, path)
 }
 
-/// Returns whether the path of an output and another path lead to the same plain file. As the other path, `-` means
-/// standard input.
+/// Returns whether the path of an output and another path lead to the same plain file: its device and its inode are
+/// equal. Returns `false` if a path leads to no file. As the other path, `-` means standard input.
 pub fn is_same_file<R: Files>(rt: &R, output: &str, other: &str) -> bool {
     match (fs::metadata(rt, output), metadata_of(rt, other)) {
         (Ok(one), Ok(two)) => one.is_file() && one.dev() == two.dev() && one.ino() == two.ino(),
@@ -265,7 +270,7 @@ pub fn is_same_file<R: Files>(rt: &R, output: &str, other: &str) -> bool {
     }
 }
 
-/// Returns whether a path is that of the file with this name in a folder.
+/// Returns whether a path leads to the plain file with this name in a folder. Fails only if memory is refused.
 fn is_file_in<R: Files + AllocGlobal>(
     rt: &R,
     path: &str,
@@ -276,8 +281,9 @@ fn is_file_in<R: Files + AllocGlobal>(
     Ok(is_same_file(rt, path, other.as_str()))
 }
 
-/// Returns whether a path is that of one of the files with these names in a folder.
-pub fn is_in_folder<R: Files + AllocGlobal>(
+/// Returns whether a path leads to one of the plain files with these names in a folder. Fails only if memory is
+/// refused.
+pub fn is_file_in_folder<R: Files + AllocGlobal>(
     rt: &R,
     path: &str,
     directory: &str,

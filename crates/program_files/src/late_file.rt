@@ -21,7 +21,7 @@ impl<F: OpenFile> LateFile<F> {
         }
     }
 
-    /// Truncates a plain file. Doesn't change a device or a pipe.
+    /// Truncates a plain file. Doesn't change a device or a pipe. After an error, the next write tries again.
     fn drop_old_bytes(&mut self) -> io::Result<()> {
         if self.file.metadata()?.is_file() {
             self.file.set_len(0)?;
@@ -31,6 +31,7 @@ impl<F: OpenFile> LateFile<F> {
     }
 }
 
+/// The first write drops the old bytes. If they can't be dropped, it writes nothing, and fails.
 impl<F: Write + OpenFile> Write for LateFile<F> {
     fn write(&mut self, buf: &[u8]) -> io::Result<usize> {
         if self.has_old_bytes {

@@ -15,13 +15,13 @@ mod whole_file;
 
 pub use file_error::FileError;
 pub use files::{
-    FileSink, STANDARD_STREAM, create, create_all, create_file, find_folder, is_in_folder,
+    FileSink, STANDARD_STREAM, create, create_all, create_file, find_folder, is_file_in_folder,
     is_same_file, read_bytes, read_file_bytes, read_file_trace, read_front, read_trace,
 };
 pub use late_file::LateFile;
 pub use progress::{Watched, report_play};
 pub use schedule_adapters::is_for;
-pub use schedule_files::{player_of, record_of, store};
+pub use schedule_files::{open_record, read_player, store};
 pub use schedule_words::adapter_options;
 pub use standard_error::StandardError;
 pub use trace_jobs::{run_pass, run_show, unit_of};

@@ -51,9 +51,11 @@ impl<'a, R: Watched, F> ReportingReader<'a, R, F> {
         }
     }
 
-    /// Counts further bytes that were read. If progress is reported, reports when the end of a step is reached.
+    /// Counts further bytes that were read. If progress is reported and these bytes reach the end of a step, reports
+    /// how much of the file was read.
     fn count(&mut self, bytes: u64) {
-        // With the additional byte, a step isn't empty, and the file ends before the end of the last step.
+        // The additional byte prevents a division by 0. The file ends before the end of the last step, which is
+        // therefore never reported.
         let step = self.length / STEPS + 1;
         let before = self.done / step;
         self.done = self.done.saturating_add(bytes);
@@ -65,6 +67,7 @@ impl<'a, R: Watched, F> ReportingReader<'a, R, F> {
     }
 }
 
+/// A read reads from the file, and counts the bytes that were read.
 impl<R: Watched, F: Read> Read for ReportingReader<'_, R, F> {
     fn read(&mut self, buf: &mut [u8]) -> io::Result<usize> {
         let count = self.file.read(buf)?;

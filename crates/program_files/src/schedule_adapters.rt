@@ -43,7 +43,8 @@ fn serve_words<'a>(alloc: Global, options: &'a [String]) -> Result<Vec<&'a str>,
     Ok(words)
 }
 
-/// Returns `false` if words are refused with this error. Fails if the error is that memory was refused.
+/// Returns the answer of [`is_for`] if [`line`] refuses the words with this error: `false`, because the options are
+/// invalid. Fails if memory was refused, because then the answer isn't known.
 fn answer_to(error: &LineError<'_>) -> Result<bool, AllocError>
     ensures { IfOk result (λ answer. (answer ≡ false) × (error.now ≢ Memory)) }
 {

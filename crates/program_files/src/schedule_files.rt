@@ -23,8 +23,8 @@ fn is_for_job(alloc: Global, schedule: &Schedule, job: &ServeJob<'_>) -> Result<
     }
 }
 
-/// Returns the player of the schedule with this text. Fails with `OtherOptions` if the schedule is for another adapter
-/// than this job's.
+/// Returns the player of the schedule with this text. Fails with `Schedule` if the text isn't a schedule, and with
+/// `OtherOptions` if the schedule is for another adapter than this job's.
 fn player_in(alloc: Global, text: &[u8], job: &ServeJob<'_>) -> Result<Player, FileError> {
     let schedule = Schedule::parse(alloc, text)?;
     if is_for_job(alloc, &schedule, job)? {
@@ -44,7 +44,7 @@ fn playing<R: Files + Input + AllocGlobal>(
     player_in(rt.alloc(), bytes.as_slice(), job)
 }
 
-/// Returns the player that records, if the job asks for a record.
+/// Returns a player that only records, if the job asks for a record.
 fn recording(alloc: Global, job: &ServeJob<'_>) -> Option<Player> {
     match job.record {
         Some(_) => Some(Player::recording(alloc)),
@@ -52,9 +52,9 @@ fn recording(alloc: Global, job: &ServeJob<'_>) -> Option<Player> {
     }
 }
 
-/// Returns the player of a server, if the job asks for a schedule or a record. Fails with `OtherOptions` if the
-/// schedule is for another adapter than this job's.
-pub fn player_of<R: Files + Input + AllocGlobal>(
+/// Returns the player of a server, if the job asks for a schedule or a record. A player of a schedule also records.
+/// Fails with `OtherOptions` if the schedule is for another adapter than this job's.
+pub fn read_player<R: Files + Input + AllocGlobal>(
     rt: &R,
     job: &ServeJob<'_>,
 ) -> Result<Option<Player>, FileError> {
@@ -66,7 +66,7 @@ pub fn player_of<R: Files + Input + AllocGlobal>(
 
 /// Opens the file for the recorded schedule, if the job asks for a record. An existing file keeps its bytes until the
 /// schedule is stored.
-pub fn record_of<R: Files + AllocGlobal>(
+pub fn open_record<R: Files + AllocGlobal>(
     rt: &R,
     job: &ServeJob<'_>,
 ) -> Result<Option<LateFile<R::File>>, FileError> {
@@ -76,8 +76,8 @@ pub fn record_of<R: Files + AllocGlobal>(
     })
 }
 
-/// Returns a schedule of the steps that were played. It begins with the options of the adapter among `words`, the words
-/// of the command line of `serve`, if there are any.
+/// Returns a schedule of the steps that were played. `words` are the words of the command line of `serve`. If options
+/// of the adapter are among them, the schedule begins with these options.
 fn recorded(alloc: Global, words: &[String], player: &Player) -> Result<String, AllocError> {
     let options = adapter_options(alloc, words)?;
     if options.is_empty() {

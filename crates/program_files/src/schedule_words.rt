@@ -23,12 +23,13 @@ fn has_run_option(word: &str) -> bool
     }
 }
 
-/// Returns the words that are options of the adapter or their values.
+/// Returns the words that are options of the adapter or their values. The first word is no value of an option.
 fn options_in(alloc: Global, words: &[String]) -> Result<Vec<String>, AllocError>
     ensures { IfOk result (λ options. map string_bytes options.items
         ≡ spec.options_in false (map string_bytes words.now)) }
 {
     let mut options = Vec::new(alloc);
+    // Whether the word is the value of an option that isn't one of the adapter.
     let mut is_value = false;
     for word in words {
         let word = word.as_str();

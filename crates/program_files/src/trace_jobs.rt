@@ -35,7 +35,8 @@ fn pass_trace<S: Sink>(
     }
 }
 
-/// Finishes the file with the frames that passed, at the path OUT, and writes the line of counts to standard output.
+/// Finishes the output file, to which all frames that pass were written, and writes the line of counts to standard
+/// output. `path` is the path of the output, OUT.
 fn finish_pass(
     rt: &HostRuntime,
     path: &str,
@@ -95,7 +96,7 @@ pub fn run_pass(rt: &HostRuntime, job: &PassJob<'_>) -> Result<(), FileError>
     pass_to_file(rt, job, &trace)
 }
 
-/// Does the job of `show`: writes a line for each frame of the trace to standard output.
+/// Does the job of `show`: writes to standard output a line for each frame of the trace, and a last line with counts.
 ///
 /// # Errors
 ///

@@ -37,7 +37,7 @@ enum NewFile<F> {
     Refused,
 }
 
-/// Makes a new file with this name.
+/// Makes a new file at the path `name`. Doesn't open a file that exists.
 fn new_file<R: Files>(rt: &R, name: &str) -> NewFile<R::File> {
     match OpenOptions::new()
         .write(true)
@@ -50,8 +50,8 @@ fn new_file<R: Files>(rt: &R, name: &str) -> NewFile<R::File> {
     }
 }
 
-/// Makes a part, which is a new file, and returns the part with its path. Returns `None` if no part can be made. Fails
-/// only if memory is refused.
+/// Makes a part for the output at `path`, and returns the part with its path: `PATH.part0`, or the next number up to 99
+/// whose file doesn't exist. Returns `None` if no part can be made. Fails only if memory is refused.
 fn new_part<R: Files + AllocGlobal>(
     rt: &R,
     path: &str,
@@ -100,7 +100,7 @@ fn part_like<R: Files + AllocGlobal>(
 }
 
 impl<F: OpenFile + std::io::Write + Drop> WholeFile<F> {
-    /// Returns an output that is written into a part.
+    /// Returns an output that is written into a part: `file`, at the path `name`. The sink's count of failures is 0.
     fn in_part(file: F, name: String) -> WholeFile<F>
         ensures { ⟦<FileSink<F> as Sink>⟧.failures result.sink ≡ 0 }
     {
@@ -110,7 +110,7 @@ impl<F: OpenFile + std::io::Write + Drop> WholeFile<F> {
         }
     }
 
-    /// Returns an output that is written in place. The sink must not have failed.
+    /// Returns an output that is written in place. The sink's count of failures must be 0.
     fn in_place(sink: FileSink<F>) -> WholeFile<F>
         requires { ⟦<FileSink<F> as Sink>⟧.failures sink ≡ 0 }
         ensures { ⟦<FileSink<F> as Sink>⟧.failures result.sink ≡ 0 }
@@ -149,7 +149,8 @@ impl<F: OpenFile + std::io::Write + Drop> WholeFile<F> {
     }
 }
 
-/// Opens a plain file with one name. Its new bytes are written into a part, or in place if no part can be made.
+/// Opens a plain file with one hard link. Its new bytes are written into a part, or in place if no part can be made.
+/// The sink's count of failures is 0.
 fn open_replaceable<R: Files + AllocGlobal>(
     rt: &R,
     path: &str,
@@ -167,7 +168,7 @@ fn open_replaceable<R: Files + AllocGlobal>(
     }
 }
 
-/// Opens or creates an output that is written in place.
+/// Opens or creates an output that is written in place. The sink's count of failures is 0.
 fn create_in_place<R: Files + AllocGlobal>(
     rt: &R,
     path: &str,
@@ -177,7 +178,8 @@ fn create_in_place<R: Files + AllocGlobal>(
     Ok(WholeFile::in_place(create(rt, path)?))
 }
 
-/// Creates an output that doesn't exist. Its bytes are written into a part, or in place if no part can be made.
+/// Creates an output that doesn't exist. Its bytes are written into a part, or in place if no part can be made. The
+/// sink's count of failures is 0.
 fn create_new<R: Files + AllocGlobal>(rt: &R, path: &str) -> Result<WholeFile<R::File>, FileError>
     ensures { IfOk result (λ file. ⟦<FileSink<R::File> as Sink>⟧.failures file.sink ≡ 0) }
 {
@@ -187,9 +189,10 @@ fn create_new<R: Files + AllocGlobal>(rt: &R, path: &str) -> Result<WholeFile<R:
     }
 }
 
-/// Opens an output. A plain file with one name keeps its bytes until [`finish`](WholeFile::finish), and a new file gets
-/// its name then. Any other output is written in place, as by [`create`]: a link, a file with several names, a device
-/// or a pipe. A file for which no part with its owner, group and permissions can be made is written in place, too.
+/// Opens an output. A plain file with one hard link keeps its bytes until [`finish`](WholeFile::finish), and a new file
+/// gets its name then. Any other output is written in place, as by [`create`]: a symbolic link, a file with several
+/// hard links, a device or a pipe. A file for which no part with its owner, group and permissions can be made is
+/// written in place, too. The sink's count of failures is 0.
 pub fn create_whole<R: Files + AllocGlobal>(
     rt: &R,
     path: &str,

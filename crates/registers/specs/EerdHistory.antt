@@ -11,6 +11,7 @@ pub data Operation : Type 0 where
   Write : ℕ → Operation
   Tick : Operation
 
+-- The register after one operation, if the EEPROM contains these words.
 abbrev pub after_operation : List ℕ → Operation → ReadState → ReadState
 after_operation words (Write value) = eerd_after_write value
 after_operation words Tick = after_tick words
@@ -20,10 +21,12 @@ abbrev pub after_all : List ℕ → List Operation → ReadState → ReadState
 after_all words [] state = state
 after_all words (operation ∷ later) state = after_all words later (after_operation words operation state)
 
+-- Whether the operation is a write with START.
 abbrev pub is_start : Operation → Bool
 is_start (Write value) = has_start value
 is_start Tick = false
 
+-- Whether the operation is a tick.
 abbrev pub is_eerd_tick : Operation → Bool
 is_eerd_tick (Write value) = false
 is_eerd_tick Tick = true

@@ -23,6 +23,7 @@ pub record MdicAndPhy : Type 0 where
   pub mdic : MdicState
   pub phy : PhyState
 
+-- MDIC and the PHY after one event. A write doesn't change the PHY.
 abbrev pub after_mdic_event : MdicEvent → MdicAndPhy → MdicAndPhy
 after_mdic_event (Write value) both = record { mdic = mdic_after_write value; phy = both.phy }
 after_mdic_event Tick both = record { mdic = mdic_after_tick both.mdic both.phy; phy = phy_after_tick both.mdic both.phy }
@@ -56,6 +57,7 @@ accesses (Write value ∷ Write next ∷ later) = accesses (Write next ∷ later
 abbrev pub AccessesByHistory : Type 0
 AccessesByHistory = (state : PhyState) (all : List MdicEvent) → (both_behind state all).phy ≡ phy_after_all (accesses all) state
 
+-- Whether the event is a write.
 abbrev pub is_write : MdicEvent → Bool
 is_write (Write value) = true
 is_write Tick = false

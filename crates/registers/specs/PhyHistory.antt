@@ -16,6 +16,7 @@ pub data PhyEvent : Type 0 where
   Read : ℕ → PhyEvent
   Write : ℕ → ℕ → PhyEvent
 
+-- The PHY after one event.
 abbrev pub phy_after : PhyEvent → PhyState → PhyState
 phy_after Tick phy = after_tick phy
 phy_after (Read register) phy = phy_after_read register phy
@@ -30,6 +31,7 @@ phy_after_all (event ∷ later) phy = phy_after_all later (phy_after event phy)
 abbrev pub phy_behind : Link → List PhyEvent → PhyState
 phy_behind link events = phy_after_all events (new_phy link)
 
+-- Whether the event is a tick.
 abbrev pub is_tick_of_phy : PhyEvent → Bool
 is_tick_of_phy Tick = true
 is_tick_of_phy (Read register) = false

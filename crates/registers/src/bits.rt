@@ -1,9 +1,11 @@
 // Registers as sets of bits: CTRL, STATUS, RCTL, TCTL, and the causes of ICR, ICS, IMS and IMC. Each type has the names
 // of its bits, what a write stores, and tests of one bit.
 //
-// From each `impl Flags`, `bitflags` makes the operations on sets of bits. `flags` lists the bits in the code, and
-// `table` lists the same bits for contracts. `bits` and `set_of` are a set as a number. `from_bits_retain` is the
-// set with this number, also if bits of it have no name. `exact` makes the contracts of the operations apply.
+// `bitflag_items!` defines a constant of each name, and the list `FLAGS` of all names and constants. From an
+// `impl Flags`, `bitflags` makes the operations on sets of bits, such as `contains` and `from_bits_truncate`. `flags`
+// returns the list, and `table` states the same list for contracts. `bits` returns a set as a number, and `set_of` is
+// this number in contracts. `from_bits_retain` makes a set of a number, and keeps the bits that have no name. With
+// `exact = { ⊤ }`, the contracts of the operations apply to this type.
 
 ghost use Rattle.std.specs.Prelude.{⊤, ◌≡◌, ◌↔◌, [], ◌∷◌, IsTrue, bit_and, codes};
 ghost use Rattle.registers.specs.Bits.{HasBit};
@@ -57,22 +59,22 @@ impl Flags for Ctrl {
 }
 
 impl Ctrl {
-    /// Returns the bits of a word written to CTRL that are flags of `Ctrl`, including RST.
+    /// Returns the bits of a word written to CTRL that have a name, including RST, which [`Ctrl::kept`] drops.
     pub fn written(value: u32) -> Ctrl
         ensures { result.0 ≡ bit_and value written_control_mask }
     {
         Ctrl::from_bits_truncate(value)
     }
 
-    /// Returns the value of CTRL after a write of this word, if RST is clear in the word. If RST is set, the write is
-    /// a reset ([`Ctrl::resets`]). RST isn't stored.
+    /// Returns the value of CTRL after a write of this word, if RST is clear in the word. RST isn't stored: a write
+    /// with RST set is a reset ([`Ctrl::resets`]).
     pub fn kept(value: u32) -> Ctrl
         ensures { result.0 ≡ bit_and value control_mask }
     {
         Ctrl::written(value).difference(Ctrl::RST)
     }
 
-    /// Returns whether RST is set in the written word.
+    /// Returns whether RST is set, so that a write of this word resets the adapter.
     pub fn resets(self) -> bool
         ensures { IsTrue result ↔ HasBit self.0 ctrl_rst }
     {

@@ -22,8 +22,8 @@ impl ConfigAddress {
         ConfigAddress(value & KEPT)
     }
 
-    /// Returns whether accesses of CONFIG_DATA are enabled, and the numbers select the adapter: bus 0, device 4,
-    /// function 0.
+    /// Returns whether accesses of CONFIG_DATA reach the adapter's configuration space: bit 31 enables these accesses,
+    /// and the numbers are bus 0, device 4 and function 0.
     pub(crate) fn selects_function(self) -> bool
         ensures { result ≡ selects_function self.0 }
     {

@@ -26,7 +26,8 @@ impl Status {
     /// The code of 1000 Mb/s in SPEED.
     const MBPS_1000: Status = Status(2 << 6);
 
-    /// Returns the value of STATUS: link up, full duplex and 1000 Mb/s if `link_up` is true, else 0.
+    /// Returns the value of STATUS: link up, full duplex and 1000 Mb/s if `link_up` is true, else 0. The caller sets
+    /// `link_up` if the PHY's link is up and CTRL.SLU is set.
     pub fn of_link(link_up: bool) -> Status
         ensures { result.0 ≡ (if link_up then status_of_link_up else 0) }
     {

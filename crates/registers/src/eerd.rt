@@ -55,9 +55,8 @@ impl Eerd {
         }
     }
 
-    /// Writes the register. A write with START begins a read of the word at ADDR, and drops a pending read. A write
-    /// without START is ignored. (That a pending read is dropped, and that a write without START is ignored, is our
-    /// choice.)
+    /// Writes the register. A write with START begins a read of the word at ADDR, and drops a pending read (our
+    /// choice). A write without START is ignored (our choice).
     pub fn write(&mut self, value: u32)
         ensures { self.new ≡ eerd_after_write value self.old }
     {
@@ -114,6 +113,7 @@ impl Eerd {
 impl Default for Eerd {
     ghost is_default = { λ eerd. eerd ≡ Idle };
 
+    /// Returns a register for which no read was begun, as [`Eerd::new`] does.
     fn default() -> Self {
         Eerd::new()
     }

@@ -7,7 +7,7 @@ ghost use Rattle.std.specs.Hash.{u8};
 use crate::{Link, Negotiation, Operation, ReadState};
 use std::hash::Hasher;
 
-/// Feeds the state of an EEPROM read.
+/// Feeds the state of an EEPROM read: a tag of the variant, and then its address and word, if any.
 pub(crate) fn feed_read_state<H: Hasher>(state: ReadState, hasher: &mut H)
     ensures { hasher.new ≡ fold H.write hasher.old (eerd_writes state) }
 {
@@ -25,7 +25,7 @@ pub(crate) fn feed_read_state<H: Hasher>(state: ReadState, hasher: &mut H)
     }
 }
 
-/// Feeds the pending command of MDIC, if any.
+/// Feeds a tag for the pending command of MDIC: 0 if no command is pending.
 pub(crate) fn feed_command<H: Hasher>(pending: Option<Operation>, hasher: &mut H)
     ensures { hasher.new ≡ fold H.write hasher.old (u8 (pending_tag pending)) }
 {
@@ -36,7 +36,7 @@ pub(crate) fn feed_command<H: Hasher>(pending: Option<Operation>, hasher: &mut H
     });
 }
 
-/// Feeds the setting of the link.
+/// Feeds the setting of the link: a tag of the variant, and then the number of ticks of `After`.
 pub(crate) fn feed_link<H: Hasher>(link: Link, hasher: &mut H)
     ensures { hasher.new ≡ fold H.write hasher.old (link_writes link) }
 {
@@ -49,7 +49,7 @@ pub(crate) fn feed_link<H: Hasher>(link: Link, hasher: &mut H)
     }
 }
 
-/// Feeds the state of negotiation.
+/// Feeds the state of negotiation: a tag of the variant, and then the remaining ticks of `Running`.
 pub(crate) fn feed_negotiation<H: Hasher>(negotiation: Negotiation, hasher: &mut H)
     ensures { hasher.new ≡ fold H.write hasher.old (negotiation_writes negotiation) }
 {

@@ -74,8 +74,8 @@ impl Image {
         [b0, b1, b2, b3, b4, b5]
     }
 
-    /// Returns the word at an address, or 0xFFFF if the address is above 63 (our choice). The clause `size` states that
-    /// each image has 64 words.
+    /// Returns the word at an address, or 0xFFFF if the address is above 63 (our choice). The clause `size` is true of
+    /// each image, and is for the proofs of callers.
     pub fn word(&self, address: u8) -> u16
         ensures word { result ≡ word_at self.now address }
         ensures size { length self.now ≡ 64 }

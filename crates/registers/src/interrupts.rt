@@ -48,7 +48,7 @@ impl Causes {
         self.set(cause.bits());
     }
 
-    /// Reads ICR: returns all recorded causes, in the mask or not, and clears them. The result's other bits are 0.
+    /// Reads ICR: returns all recorded causes, in the mask or not, and clears them. Bits that aren't causes read 0.
     pub fn read(&mut self) -> u32
         ensures answer { result ≡ self.old.recorded }
         ensures cleared { self.new ≡ record self.old { recorded = 0 } }
@@ -73,21 +73,22 @@ impl Causes {
         self.recorded = self.recorded.union(Cause::kept(value));
     }
 
-    /// Writes IMS: adds the causes whose bits are 1 in the word to the mask.
+    /// Writes IMS: adds to the mask the causes whose bits are 1 in the word. Causes in the mask are enabled: they can
+    /// assert the interrupt line.
     pub fn mask(&mut self, value: u32)
         ensures { self.new ≡ record self.old { mask = union self.old.mask (causes_of value) } }
     {
         self.mask = self.mask.union(Cause::kept(value));
     }
 
-    /// Writes IMC: removes the causes whose bits are 1 in the word from the mask.
+    /// Writes IMC: removes from the mask the causes whose bits are 1 in the word, and so disables them.
     pub fn unmask(&mut self, value: u32)
         ensures { self.new ≡ record self.old { mask = difference self.old.mask (causes_of value) } }
     {
         self.mask = self.mask.difference(Cause::kept(value));
     }
 
-    /// Returns the recorded causes, without clearing them. The result's other bits are 0.
+    /// Returns the recorded causes, without clearing them. Bits that aren't causes are 0.
     pub fn recorded(&self) -> u32
         ensures answer { result ≡ self.now.recorded }
         ensures causes_alone { IsSubset result all_causes }
@@ -95,7 +96,7 @@ impl Causes {
         self.recorded.bits()
     }
 
-    /// Reads IMS: returns the mask. The result's other bits are 0.
+    /// Reads IMS: returns the mask. Bits that aren't causes read 0.
     pub fn masked(&self) -> u32
         ensures answer { result ≡ self.now.mask }
         ensures causes_alone { IsSubset result all_causes }

@@ -6,10 +6,12 @@ ghost use Rattle.registers.specs.EerdHistory.{AnswersByHistory};
 ghost use Rattle.registers.specs.MdicHistory.{AccessesByHistory, MdicByHistory, ToldByHistory};
 ghost use Rattle.registers.specs.PhyHistory.{ControlByHistory, LatchByHistory, LinkByHistory};
 
-/// The law of sets of bits. The contracts of this crate treat the bits of a register that are 1 as a set of places. The
-/// contracts use union, intersection, difference, `Meet` and `IsSubset`, which are defined by arithmetic. The law
-/// states these operations place by place (difference and `Meet` for registers of 32 bits), that 0 has no places, and
-/// that registers with the same places are equal.
+/// The law of sets of bits. In contracts, a register is also a set: the places of its bits that are 1. Union,
+/// intersection, difference, `Meet` (a common place) and `IsSubset` are defined by arithmetic on registers.
+/// - `union`, `intersection`, `difference`, `meet`, `subset`: the same operations, stated place by place. Difference
+///   and `Meet` are stated for registers of 32 bits.
+/// - `empty`: the register 0 is the empty set.
+/// - `same`: registers with the same places are equal.
 ///
 /// The function does nothing: its contract is the law.
 pub fn sets_of_places()
@@ -29,40 +31,46 @@ pub fn answers_by_history()
     ensures { AnswersByHistory }
 {}
 
-/// The condition under which the link is up, for every history. With `After(d)`, d at least 1, the link is up exactly
-/// if at least d ticks, but no reset, followed the last start of negotiation. With `Never`, the link is always down.
+/// The condition under which the link is up, after any list of ticks, reads and writes since the PHY was new. With
+/// `After(d)`, d at least 1, the link is up exactly if at least d ticks, but no reset, followed the last start of
+/// negotiation. With `Never`, the link is always down.
 pub fn link_by_history()
     ensures { LinkByHistory }
 {}
 
-/// The value of the status register, which depends only on the history. Bit 5 is set exactly if the link is up. Bit 2
-/// is set exactly if the link is up and the register was read after the last reset or restart.
+/// The value of the PHY's status register, after any list of ticks, reads and writes since the PHY was new. Bit 5 is
+/// set exactly if the link is up. Bit 2, which is latched low, is set exactly if the link is up and the register was
+/// read after the last reset or restart.
 pub fn latch_by_history()
     ensures { LatchByHistory }
 {}
 
-/// The value of the control register, which depends only on the history: bit 12 of the last value written to this
-/// register. Without a write of the register, or if the last write was a reset, the value is 0x1000.
+/// The value of the PHY's control register, after any list of ticks, reads and writes since the PHY was new. The value
+/// is bit 12 of the last value written to this register. Without a write of the register, or if the last write was a
+/// reset, the value is 0x1000.
 pub fn control_by_history()
     ensures { ControlByHistory }
 {}
 
-/// The state of the PHY after every history of MDIC, by the events at the PHY. Each tick is such an event. After the
-/// tick comes the access of the command that was written right before this tick, if PHYADD is 1. A write that is
-/// followed by another write before a tick makes no access.
+/// The accesses that MDIC makes to the PHY. Any list of writes of MDIC and ticks changes the PHY as the following
+/// events at the PHY do. Each tick is such an event. If a command for PHYADD 1 was written right before a tick, its
+/// access follows the tick. A write makes no access if another write follows it before a tick, or no tick has followed
+/// yet.
 pub fn accesses_by_history()
     ensures { AccessesByHistory }
 {}
 
-/// The value of MDIC, which depends only on the last written value, and on the PHY's register at the first tick after
-/// this write, if any.
+/// The value of MDIC, after any list of writes and ticks. The value depends only on the last written value, and on the
+/// PHY's register at the first tick after this write, if any. If the write contains a command, this tick sets R, and
+/// also E if PHYADD isn't 1. If PHYADD is 1, a read command also stores the PHY's register in DATA.
 pub fn mdic_by_history()
     ensures { MdicByHistory }
 {}
 
-/// The causes that the adapter records after a tick, by the history of MDIC. LSC is recorded exactly if the link
-/// changed from down to up. MDAC is recorded exactly if the event right before the tick is a write that contains a
-/// command and sets I.
+/// What a tick reports to the adapter, after any list of writes of MDIC and ticks ([`Ticked`](crate::Ticked)). By this
+/// report, the adapter records LSC exactly if the link changes from down to up. The adapter records MDAC exactly if the
+/// event right before the tick is a write that contains a command and sets I. If no countdown is running and no command
+/// is pending, nothing is reported.
 pub fn told_by_history()
     ensures { ToldByHistory }
 {}

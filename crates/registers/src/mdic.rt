@@ -143,9 +143,9 @@ impl Mdic {
         let link_changed = phy.tick();
         let access_complete = match self.pending.take() {
             Some(operation) => {
-                let is_told = self.value & INTERRUPT == INTERRUPT;
+                let asks_interrupt = self.value & INTERRUPT == INTERRUPT;
                 self.value = end(operation, self.value, phy);
-                is_told
+                asks_interrupt
             }
             None => false,
         };
@@ -169,13 +169,15 @@ impl Default for Mdic {
 
     ghost is_default = { λ mdic. mdic ≡ new_mdic };
 
+    /// Returns a register without a pending command, as [`Mdic::new`] does.
     fn default() -> Self {
         Mdic::new()
     }
 }
 
-/// Ends a command at the PHY. Returns the new value of MDIC, with R set. A write stores DATA in the PHY's register, and
-/// a read stores the PHY's register in DATA. A command for another PHY accesses no register, and also sets E.
+/// Ends a command at the PHY. `value` is MDIC's value, which contains PHYADD, REGADD and DATA. Returns the new value of
+/// MDIC, with R set. A write stores DATA in the PHY's register, and a read stores the PHY's register in DATA. A command
+/// for another PHY accesses no register, and also sets E.
 fn end(operation: Operation, value: u32, phy: &mut Phy) -> u32
     ensures value { result ≡ ended_value operation phy.old value }
     ensures phy { phy.new ≡ ended_phy operation value phy.old }
@@ -193,7 +195,7 @@ fn end(operation: Operation, value: u32, phy: &mut Phy) -> u32
     }
 }
 
-/// Returns this value of MDIC with the word as DATA.
+/// Returns this value of MDIC with the word as DATA, the low half.
 fn with_data(value: u32, word: u16) -> u32
     ensures { result ≡ with_data word value }
 {

@@ -86,8 +86,8 @@ impl PciFunction {
     ghost use Rattle.registers.specs.ConfigSpace.{after_write_of, config_word, new_function, registers_of};
     ghost use Rattle.registers.specs.Ports.{after_port_write};
 
-    /// Returns a function whose registers begin at this address. Memory space and bus mastering are enabled, as after
-    /// firmware has enabled them. CONFIG_ADDRESS and the interrupt line register are 0.
+    /// Returns a PCI function whose registers begin at this address. Memory space and bus mastering are enabled, as if
+    /// firmware had enabled them. CONFIG_ADDRESS and the interrupt line register are 0.
     pub fn new(registers: u64) -> PciFunction
         ensures { result ≡ new_function registers }
     {
@@ -157,7 +157,8 @@ impl PciFunction {
         Some(first)
     }
 
-    /// Returns the dword at an offset in configuration space. `asserted` is whether the interrupt line is asserted.
+    /// Returns the dword at an offset in configuration space, or 0 if the adapter has no register there. `asserted` is
+    /// whether the interrupt line is asserted.
     fn word(&self, offset: u8, asserted: bool) -> u32
         ensures { result ≡ config_word self.now asserted offset }
     {
@@ -165,6 +166,7 @@ impl PciFunction {
             DEVICE_AND_VENDOR => IDENTITY,
             STATUS_AND_COMMAND => STATUS | interrupt_status(asserted) | self.command,
             CLASS_AND_REVISION => CLASS,
+            // `BASE_BITS` has 32 bits, so the cast drops nothing.
             BASE_ADDRESS => (self.registers & BASE_BITS) as u32,
             SUBSYSTEM => SUBSYSTEM_IDENTITY,
             INTERRUPT => INTERRUPT_PIN | u32::from(self.interrupt_line),
@@ -172,7 +174,8 @@ impl PciFunction {
         }
     }
 
-    /// Writes the dword at an offset in configuration space. Bits that can't be written don't change.
+    /// Writes the dword at an offset in configuration space. Bits that can't be written don't change. A write of base
+    /// address register 0 moves the adapter's registers.
     fn set_word(&mut self, offset: u8, word: u32)
         ensures { self.new ≡ after_write_of offset word self.old }
     {

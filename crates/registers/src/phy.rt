@@ -181,14 +181,15 @@ impl Phy {
 impl Phy {
     ghost use Rattle.registers.specs.Phy.{after_control, control_value, restarted, status_value};
 
-    /// Returns the value of the control register: the bits that clear themselves read 0.
+    /// Returns the value of the control register: bit 12 as stored. The other bits read 0.
     fn control(&self) -> u16
         ensures { result ≡ control_value self.now }
     {
         if self.negotiation_enabled { ENABLE } else { 0 }
     }
 
-    /// Returns the value of the status register: bit 5 if the link is up, and also bit 2 if it isn't latched low.
+    /// Returns the value of the status register: 0 if the link is down. If the link is up, bit 5 is set, and bit 2 is
+    /// also set unless bit 2 is latched low.
     fn status(&self) -> u16
         ensures { result ≡ status_value self.now }
     {

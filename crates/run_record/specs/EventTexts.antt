@@ -126,7 +126,8 @@ answer_word (answer.Reset sending holding on_after) = codes " givenup"
 answer_word answer.NoCall = []
 answer_word answer.NoHost = codes " nohost"
 
--- the numbers of frames `sending` and `holding` that a reset gave up, and of its accesses after which the receiver was on again
+-- ` SENDING HOLDING on N`: a reset gave up `sending` frames to be sent and `holding` held frames. Its N-th access enabled
+-- the receiver again.
 abbrev pub given_up_numbers : (sending holding on_after : ℕ) → List ℕ
 given_up_numbers sending holding on_after =
     numbered (codes " ") sending ++ numbered (codes " ") holding ++ numbered (codes " on ") on_after

@@ -33,8 +33,8 @@ impl DrainedFrames {
         }
     }
 
-    /// Removes all frames, and makes room for `room` frames. Allocates only if the list has less room. If memory is
-    /// refused, the list is empty.
+    /// Removes all frames, and makes room for `room` frames. Allocates only if the list has less room. Fails if memory
+    /// is refused; then the list is empty, too.
     pub fn make_room(&mut self, room: usize) -> Result<(), AllocError>
         ensures none { self.new.list.items ≡ [] }
         ensures room { OnOk result (room ≤ vec_capacity self.new.list - length self.new.list.items) }
@@ -54,7 +54,7 @@ impl FrameSink for DrainedFrames {
     }
 
     fn take(&mut self, socket: usize, frame: &Frame) {
-        // The caller made room, so the push can't fail.
+        // The precondition `room` of `FrameSink::take` ensures that there is room, so `push` returns no error.
         let _ = self.list.push(DrainedFrame {
             socket,
             frame: Frame::from_slice(frame.as_slice()),

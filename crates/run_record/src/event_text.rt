@@ -141,7 +141,8 @@ fn push_outcome(text: &mut Vec<u8>, outcome: &Outcome<()>, frame: &[u8]) -> Resu
     }
 }
 
-/// Appends the number of accesses before a tick, the tick, and its outcome.
+/// Appends ` @N TICK OUTCOME`: the number N of accesses before a tick, the tick, and its outcome. If the outcome has a
+/// frame, the frame's size in bytes follows.
 #[inline(never)]
 pub(crate) fn push_told(
     text: &mut Vec<u8>,
@@ -233,7 +234,8 @@ fn answer_word(answer: &Answer<()>) -> &'static [u8]
     }
 }
 
-/// Appends the numbers of frames that a reset gave up, and of its accesses before the receiver was enabled again.
+/// Appends ` SENDING HOLDING on N`: the numbers of frames to be sent and of held frames that a reset gave up. N is the
+/// number of the reset's accesses up to and including the one that enabled the receiver again.
 fn push_given_up(
     text: &mut Vec<u8>,
     sending: u64,
@@ -247,7 +249,8 @@ fn push_given_up(
     push_number(text, b" on ", on_after)
 }
 
-/// Appends the numbers of an answer. `frame` is the frame that a socket returned.
+/// Appends the numbers of an answer. For a recv, this is the size in bytes of `frame`, which the socket returned. For
+/// an interrupt, this is the number of frames taken. For a reset, see [`push_given_up`]. Other answers have no numbers.
 fn push_numbers(text: &mut Vec<u8>, answer: &Answer<()>, frame: &[u8]) -> Result<(), AllocError>
     ensures { OnOk result
         (text.new.items ≡ text.old.items ++ texts.answer_numbers (answer_with frame.now answer.now)) }
@@ -274,7 +277,7 @@ fn push_answer(text: &mut Vec<u8>, answer: &Answer<()>, frame: &[u8]) -> Result<
     push_numbers(text, answer, frame)
 }
 
-/// Appends the number of an event or a drain, without a label, and the number of its line in the scenario.
+/// Appends `EVENT line LINE`: the number of an event or a drain, and the number of its line in the scenario.
 fn push_place(text: &mut Vec<u8>, place: Place) -> Result<(), AllocError>
     ensures { OnOk result (text.new.items ≡ text.old.items ++ lines.place_text place) }
 {
@@ -282,8 +285,8 @@ fn push_place(text: &mut Vec<u8>, place: Place) -> Result<(), AllocError>
     push_number(text, b" line ", place.line)
 }
 
-/// Appends the line of the event at this place. `outcomes` is the text of the event's ticks. `frame` is the frame that
-/// a socket returned, if the answer has one.
+/// Appends the line of the event at this place: `EVENT line LINE CALL ANSWER accesses N`, `outcomes`, and a line feed.
+/// `outcomes` is the text of the event's ticks. `frame` is the frame that a socket returned, if the answer has one.
 #[inline(never)]
 pub(crate) fn push_line(
     text: &mut Vec<u8>,
@@ -307,7 +310,8 @@ pub(crate) fn push_line(
     text.extend_from_slice(b"\n")
 }
 
-/// Appends the line of the drain at this place, in which a host returned `count` frames.
+/// Appends the line of the drain at this place: `EVENT line LINE drain HOST ok N`, and a line feed. N is `count`, the
+/// number of frames that the host returned.
 pub(crate) fn push_drain(
     text: &mut Vec<u8>,
     names: &[String],

@@ -71,14 +71,14 @@ impl Traces<'_> {
     ghost use Rattle.std.specs.Prelude.{◌≡◌};
     ghost use Rattle.run_record.specs.Traces.{is_in_trace};
 
-    /// Returns whether a frame of this host and this socket belongs to the trace with this number. Returns false if
-    /// there is no such trace.
+    /// Returns whether a frame of this host and this socket belongs to the trace with this number. For the trace of a
+    /// wire, the socket has no effect. Returns false if there is no such trace.
     fn wants(&self, trace: usize, host: usize, socket: usize) -> bool
         ensures { result ≡ is_in_trace self.now trace host socket }
     {
         match self {
             Traces::Sockets(sockets) => match sockets.get(trace) {
-                Some((at, of)) => *at == host && *of == socket,
+                Some((of_host, of_socket)) => *of_host == host && *of_socket == socket,
                 None => false,
             },
             Traces::Wires(plans, names) => match names.get(trace) {
@@ -112,7 +112,7 @@ impl KeptFrames {
     ///
     /// # Errors
     ///
-    /// If memory is refused.
+    /// Returns an error only if memory is refused.
     #[inline(never)]
     pub(crate) fn reserve(&mut self, count: usize) -> Result<(), AllocError>
         ensures { self.new ≡ self.old }
@@ -125,7 +125,7 @@ impl KeptFrames {
     ///
     /// # Errors
     ///
-    /// If memory is refused.
+    /// Returns an error only if memory is refused.
     #[inline(never)]
     pub(crate) fn push(
         &mut self,
@@ -148,12 +148,13 @@ impl KeptFrames {
         Ok(())
     }
 
-    /// Writes the frames of the trace with this number, with times in this unit. The time of each frame in microseconds
-    /// is the number of its event or drain.
+    /// Writes the trace with this number to a sink, through the buffer of `writer`: the file header and the frames,
+    /// with times in this unit. The time of each frame in microseconds is the number of its event or drain. The sink's
+    /// number of failures must be able to grow by 1 (`countable`).
     ///
     /// # Errors
     ///
-    /// E67 [`Write`](WriteError::Write) if the sink fails; then it has a beginning of the trace.
+    /// E67 [`Write`](WriteError::Write) if the sink fails. Then a beginning of the trace was written.
     fn write_trace<W: Sink>(
         &self,
         traces: &Traces<'_>,
@@ -182,13 +183,14 @@ impl KeptFrames {
         writer.flush(sink)
     }
 
-    /// Writes the frames of each trace to a sink: the first trace to the first sink, and so on. There must not be more
-    /// sinks than traces. If there are fewer sinks, the last traces aren't written.
+    /// Writes each trace to a sink: the first trace to the first sink, and so on. There must not be more sinks than
+    /// traces. If there are fewer sinks, the last traces aren't written. Each sink's number of failures must be able to
+    /// grow by 1 (`countable`).
     ///
     /// # Errors
     ///
-    /// E67 [`Write`](WriteError::Write) if a sink fails: the sinks before it have their whole trace, this sink has a
-    /// beginning of its own, and the sinks after it are unchanged.
+    /// E67 [`Write`](WriteError::Write) if a sink fails. Then the earlier sinks have their whole traces, this sink has
+    /// a beginning of its trace, and the later sinks are unchanged.
     #[tactic(auto, using(crate::proofs::Writing::none_written))]
     pub fn write<W: Sink>(
         &self,

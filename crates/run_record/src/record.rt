@@ -58,7 +58,8 @@ fn tick_host(tick: Tick) -> usize
     }
 }
 
-/// Returns the passage in an outcome; `None` if the outcome isn't counted.
+/// Returns what happened to the frame of an outcome, as it is counted; `None` if the outcome isn't counted. The outcome
+/// contains no frame, so the clause holds for each frame.
 fn passage_of(outcome: &Outcome<()>) -> Option<Passage>
     ensures { (frame : List ℕ) → IsPassage (with_frame frame outcome.now) result }
 {
@@ -71,7 +72,7 @@ fn passage_of(outcome: &Outcome<()>) -> Option<Passage>
     }
 }
 
-/// Counts a passage of a frame at a host, if the host exists.
+/// Counts one frame, to which `passage` happened, in the counts of a host, if the host exists.
 #[tactic(auto, using(crate::proofs::Noting::counts_there, crate::proofs::Noting::counts_nowhere))]
 fn count(hosts: &mut [Tally], host: usize, passage: Passage)
     ensures { TallyCounts host passage hosts.old hosts.new }
@@ -81,9 +82,10 @@ fn count(hosts: &mut [Tally], host: usize, passage: Passage)
     }
 }
 
-/// Counts the frames that a reset of a host gave up, and notes that the host was reset, if the host exists.
+/// Adds the numbers of frames that a reset gave up to the counts of a host, and notes that the host was reset.
+/// `sending` frames were to be sent, and `holding` frames were held. Changes nothing if the host doesn't exist.
 #[tactic(auto, using(crate::proofs::Noting::given_up_there, crate::proofs::Noting::given_up_nowhere))]
-fn give_up(hosts: &mut [Tally], host: usize, sending: u64, holding: u64)
+fn count_given_up(hosts: &mut [Tally], host: usize, sending: u64, holding: u64)
     ensures { TallyGivesUp host sending holding hosts.old hosts.new }
 {
     if host < hosts.len() {
@@ -112,7 +114,8 @@ fn is_put(outcome: &Outcome<()>) -> bool
 }
 
 /// Records the frame of an outcome at a host, if the frame was put on a wire and such frames are recorded. `number` is
-/// the number of the event. The frame must have at most 1,518 bytes. The socket of a frame that was put is 0.
+/// the number of the event. The frame must have at most 1,518 bytes. The socket of a frame that was put is 0. Fails if
+/// memory is refused.
 #[inline(always)]
 fn note_put(
     puts: &mut Option<KeptFrames>,
@@ -134,7 +137,8 @@ fn note_put(
     }
 }
 
-/// Makes room for the frames that `ticks` ticks may put on wires, if such frames are recorded.
+/// Makes room for the frames that `ticks` ticks may put on wires, if such frames are recorded. The recorded frames
+/// don't change. Fails if memory is refused.
 fn reserve_puts(puts: &mut Option<KeptFrames>, ticks: usize) -> Result<(), AllocError>
     ensures { puts.new ≡ puts.old }
 {
@@ -144,7 +148,8 @@ fn reserve_puts(puts: &mut Option<KeptFrames>, ticks: usize) -> Result<(), Alloc
     }
 }
 
-/// Counts the frame of a send, if the answer is that the send accepted the frame.
+/// Counts the frame of a send, if the answer is that the send accepted the frame. Only the number of accepted frames is
+/// counted, so the clause holds for each frame.
 #[tactic(auto, using(crate::specs::RecordingLaws::grows_not))]
 fn note_sent(hosts: &mut [Tally], host: usize, answer: &Answer<()>)
     ensures { (frame given : List ℕ)
@@ -167,12 +172,13 @@ fn note_reset(hosts: &mut [Tally], host: usize, answer: &Answer<()>)
         ..
     } = answer
     {
-        give_up(hosts, host, sending.len() as u64, holding.len() as u64);
+        count_given_up(hosts, host, sending.len() as u64, holding.len() as u64);
     }
 }
 
-/// Counts and records the frames that a drained host returned. `number` is the number of the drain. The clauses state 0
-/// moves of frames from the receive packet buffer, because moves are neither counted nor recorded.
+/// Counts and records the frames that a drained host returned. `number` is the number of the drain. Fails if memory is
+/// refused. The clauses state 0 moves of frames from the receive packet buffer, because moves are neither counted nor
+/// recorded.
 fn note_drained(
     hosts: &mut [Tally],
     returned: &mut KeptFrames,
@@ -226,7 +232,8 @@ impl Record {
         })
     }
 
-    /// Makes room for what is recorded of an event with `ticks` ticks.
+    /// Makes room for what is recorded of an event with `ticks` ticks. What is recorded doesn't change. Fails if memory
+    /// is refused.
     #[inline(always)]
     fn reserve(&mut self, event: &Event<'_>, ticks: usize) -> Result<(), AllocError>
         ensures { self.new ≡ self.old }
@@ -239,8 +246,8 @@ impl Record {
         }
     }
 
-    /// Counts the answer to an event if it is a refusal, and records the event's line if lines are recorded. Sets
-    /// `failed` if memory was refused.
+    /// Counts the answer to an event if the answer is a refusal, and records the event's line if lines are recorded.
+    /// Sets `failed` if memory was refused.
     #[inline(always)]
     fn note_line(&mut self, event: &Event<'_>, accesses: u64, answer: &Answer<()>, frame: &[u8])
         ensures { NotesLine event.now accesses (answer_with frame.now answer.now) self.old self.new }
@@ -289,9 +296,9 @@ impl Record {
         }
     }
 
-    /// Counts and records the frames that a host returned in the next drain, and records the drain's line if lines are
-    /// recorded. The number of frames in the host's receive packet buffer before the drain isn't recorded: the clause
-    /// states 0. Fails if memory is refused.
+    /// Counts and records the frames `given` that a host returned in a drain, and records the drain's line if lines are
+    /// recorded. The drain has the number `self.number`, which then grows by 1. The number of frames in the host's
+    /// receive packet buffer before the drain isn't recorded: the clause states 0. Fails if memory is refused.
     #[tactic(auto, using(crate::proofs::NotedEvents::drain_noted))]
     pub fn note_drain(&mut self, host: usize, given: &[DrainedFrame]) -> Result<(), AllocError>
         ensures { OnOk result
@@ -350,6 +357,7 @@ impl RunObserver for Record {
 
     #[inline(always)]
     fn make_room(&mut self, event: &Event<'_>, ticks: usize) -> bool {
+        // After a failure, the record refuses each further event, so the run ends.
         !self.failed && self.reserve(event, ticks).is_ok()
     }
 

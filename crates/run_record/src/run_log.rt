@@ -68,7 +68,7 @@ pub struct RunLog {
     pub lines: Option<EventLog>,
 }
 
-/// Returns the names of hosts, in order.
+/// Returns copies of the names of hosts, in order. Fails if memory is refused.
 fn names_of(alloc: Global, plans: &[HostPlan]) -> Result<Vec<String>, AllocError>
     ensures { IfOk result (λ names. map string_bytes names.items ≡ map plan_name plans.now) }
 {
@@ -80,7 +80,7 @@ fn names_of(alloc: Global, plans: &[HostPlan]) -> Result<Vec<String>, AllocError
 }
 
 impl EventLog {
-    /// Returns a log of these hosts without lines.
+    /// Returns a log of these hosts without lines. Fails if memory is refused.
     fn new(alloc: Global, plans: &[HostPlan]) -> Result<EventLog, AllocError>
         ensures { IfOk result (λ log. log ≡ no_lines (map plan_name plans.now)) }
     {
@@ -91,23 +91,27 @@ impl EventLog {
         })
     }
 
-    /// Makes room for the line of an event with `ticks` ticks.
+    /// Makes room for the line of an event with `ticks` ticks. The log's value doesn't change. Fails if memory is
+    /// refused.
     #[inline(never)]
     fn reserve(&mut self, ticks: usize) -> Result<(), AllocError>
         ensures { self.new ≡ self.old }
     {
+        // The texts of the ticks are collected in `outcomes`, and then copied to the event's line in `text`.
         let outcomes = ticks.saturating_mul(LONGEST_TOLD);
         self.outcomes.reserve(outcomes)?;
         self.text.reserve(outcomes.saturating_add(LONGEST_REST))
     }
 
-    /// Writes the lines to a sink. The line of an event is `EVENT line LINE CALL ANSWER accesses N`, followed by ` @N
-    /// TICK OUTCOME` for each tick, whose N is the number of accesses before the tick. The line of a drain is `EVENT
-    /// line LINE drain HOST ok N`. Allocates no memory.
+    /// Writes the lines to a sink. Allocates no memory. The sink's number of failures must be able to grow by 1.
+    ///
+    /// - The line of an event is `EVENT line LINE CALL ANSWER accesses N`, and then ` @N TICK OUTCOME` for each tick.
+    ///   The N of a tick is the number of accesses before the tick.
+    /// - The line of a drain is `EVENT line LINE drain HOST ok N`: the host returned N frames.
     ///
     /// # Errors
     ///
-    /// E67 [`Write`](WriteError::Write) if the sink fails; then it has a beginning of the text.
+    /// E67 [`Write`](WriteError::Write) if the sink fails. Then a beginning of the text was written.
     pub fn write<W: Sink>(&self, sink: &mut W) -> Result<(), WriteError>
         requires { W.failures sink.old < u64.MAX }
         ensures ok { OnOk result (Appends (W.taken sink.old) (W.taken sink.new) self.now.text) }
@@ -119,7 +123,7 @@ impl EventLog {
 }
 
 impl RunLog {
-    /// Returns a log without answers, which records no lines.
+    /// Returns a log without answers, which records no lines, so it needs no names of hosts.
     pub(crate) fn without_lines() -> RunLog
         ensures { (names : List (List ℕ)) → result ≡ new_log names false }
     {
@@ -141,6 +145,7 @@ impl RunLog {
     }
 
     /// Makes room for the line of an event with `ticks` ticks, if lines are recorded. The log's value doesn't change.
+    /// Fails if memory is refused.
     #[inline(always)]
     pub(crate) fn reserve(&mut self, ticks: usize) -> Result<(), AllocError>
         ensures { self.new ≡ self.old }
@@ -151,7 +156,8 @@ impl RunLog {
         }
     }
 
-    /// Appends the text of a tick, with its outcome, to the texts of its event's ticks, if lines are recorded.
+    /// Appends the text of a tick, with its outcome, to the texts of the current event's ticks, if lines are recorded.
+    /// `accesses` is the number of accesses before the tick, and `frame` the frame of the outcome, if it has one.
     #[inline(always)]
     pub(crate) fn note(
         &mut self,
@@ -188,8 +194,9 @@ impl RunLog {
         }
     }
 
-    /// Counts the answer of the event at this place if it is a refusal, and records the event's line if lines are
-    /// recorded. The texts of the event's ticks are then removed.
+    /// Counts the answer of the event at this place if the answer is a refusal, and records the event's line if lines
+    /// are recorded. The texts of the event's ticks are then removed. `frame` is the frame that a socket returned, if
+    /// the answer has one. Fails if memory is refused.
     #[inline(always)]
     pub(crate) fn end(
         &mut self,
@@ -221,6 +228,7 @@ impl RunLog {
     }
 
     /// Records the line of the drain at this place, in which a host returned `count` frames, if lines are recorded.
+    /// Fails if memory is refused.
     pub(crate) fn drain(
         &mut self,
         place: Place,

@@ -55,7 +55,8 @@ pub(crate) enum Passage {
 }
 
 impl Tally {
-    /// Returns these counts after one more passage of a frame.
+    /// Returns these counts after `passage` happened to one more frame. Each frame that reached the adapter is counted
+    /// in `reached`. A stored frame is also counted in `stored`, and a frame with the passage `Off` in `off`.
     pub(crate) fn with(self, passage: Passage) -> Tally
         ensures { result ≡ counted_once passage self }
     {
@@ -77,7 +78,7 @@ impl Tally {
         tally
     }
 
-    /// Returns these counts after a reset, which gave up these numbers of frames.
+    /// Returns these counts after one more reset, which gave up these numbers of frames to be sent and of held frames.
     pub(crate) fn given_up(self, sending: u64, holding: u64) -> Tally
         ensures { result ≡ tally_given_up sending holding self }
     {
@@ -89,7 +90,8 @@ impl Tally {
         }
     }
 
-    /// Returns the numbers of frames that the host lost and dropped; `None` if the host wasn't reset.
+    /// Returns the numbers of frames that the host lost by resets, or dropped while its receive side was disabled.
+    /// Returns `None` if the host wasn't reset.
     pub fn resets(self) -> Option<GivenUp>
         ensures { result ≡ resets_in self }
     {

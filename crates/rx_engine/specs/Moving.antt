@@ -22,9 +22,9 @@ pub record HasFrameToMove (control : ℕ) (ring : Ring) (engine : Receiver) : Ty
   -- At least one descriptor is offered: RDH and RDT differ.
   pub offered : ring.head ≢ ring.tail
 
--- With this value of RCTL, RCTL.EN is set, and at least one descriptor is offered.
-abbrev pub IsOffered : ℕ → Ring → Type 0
-IsOffered control ring = HasBit control rctl_en × (ring.head ≢ ring.tail)
+-- In this value of RCTL, EN is set, and at least one descriptor is offered: RDH and RDT differ.
+abbrev pub IsEnabledAndOffered : ℕ → Ring → Type 0
+IsEnabledAndOffered control ring = HasBit control rctl_en × (ring.head ≢ ring.tail)
 
 -- The size of a receive buffer in bytes, by BSIZE of this value of RCTL.
 abbrev pub buffer_bytes : ℕ → ℕ

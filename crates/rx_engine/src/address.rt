@@ -15,7 +15,7 @@ use registers::GroupOffset;
 const BROADCAST: [u8; 6] = [0xFF; 6];
 
 /// AV, bit 31 of RAH: the entry is valid.
-const ADDRESS_VALID: u32 = 1 << 31;
+pub const ADDRESS_VALID: u32 = 1 << 31;
 
 /// The two words of an entry of the receive addresses.
 #[derive(Clone, Copy)]
@@ -52,7 +52,7 @@ pub fn hash_of(mo: GroupOffset, address: &[u8; 6]) -> u16
     (last >> mo.shift()) % NUMBERS
 }
 
-/// Returns the destination of a frame of at least 16 bytes: bytes 0 to 5.
+/// Returns the destination of a frame: bytes 0 to 5. The frame has at least 16 bytes, as `Filter::passes` requires.
 pub(crate) fn destination_of(frame: &[u8]) -> [u8; 6]
     requires { 16 ≤ length frame.now }
     ensures { result ≡ destination frame.now }
@@ -79,6 +79,7 @@ fn holds_address(low: u32, high: u32, address: &[u8; 6]) -> bool
     ensures { IsTrue result ↔ HoldsAddress low high address.now }
 {
     let words = AddressWords::of(address);
+    // Bits 15:0 of RAH are bytes 4 and 5 of the address, and bit 31 is AV.
     low == words.low && high % 0x1_0000 == words.high % 0x1_0000 && has_bit(high, 31)
 }
 
@@ -98,7 +99,8 @@ pub(crate) fn has_entry(
     false
 }
 
-/// Returns the type of a frame of at least 16 bytes: bytes 12 and 13, the higher one first.
+/// Returns the type of a frame: bytes 12 and 13, the higher one first. The frame has at least 16 bytes, as
+/// `Filter::passes` requires.
 pub(crate) fn ether_type_of(frame: &[u8]) -> u16
     requires { 16 ≤ length frame.now }
     ensures { result ≡ ether_type frame.now }
@@ -106,8 +108,8 @@ pub(crate) fn ether_type_of(frame: &[u8]) -> u16
     u16::from_be_bytes([frame[12], frame[13]])
 }
 
-/// Returns the VLAN number of a tagged frame: the low 12 bits of bytes 14 and 15, the higher byte first. The frame has
-/// at least 16 bytes.
+/// Returns the VLAN number of a tagged frame of at least 16 bytes: the low 12 bits of bytes 14 and 15, the higher byte
+/// first.
 pub(crate) fn vlan_number_of(frame: &[u8]) -> u16
     requires { 16 ≤ length frame.now }
     ensures { result ≡ vlan_number frame.now }

@@ -7,7 +7,7 @@ ghost use Rattle.dma_memory.specs.HostMemory.{LiesIn, with_bytes};
 ghost use Rattle.rx_engine.specs.Descriptors.{named_address};
 ghost use Rattle.rx_engine.specs.Receiver.{IsReceiver};
 ghost use Rattle.rx_engine.specs.Moving.{HasFrameToMove, CanMove, engine_after_data, is_last, next_piece};
-ghost use Rattle.rx_engine.specs.Moving.{ring_after_data, moved_answer, IsOffered};
+ghost use Rattle.rx_engine.specs.Moving.{ring_after_data, moved_answer, IsEnabledAndOffered};
 ghost use Rattle.rx_engine.specs.Moving.{memory_after_data, IsMoved, IsPartMoved, IfMoved, is_half_offered};
 
 use crate::storing::store_in;
@@ -66,6 +66,7 @@ pub fn rx_data(
     control: Rctl,
     memory: &mut HostMemory,
 ) -> Data
+    // `HasFrameToMove`: no condition for `Nothing` is true. `CanMove`: no condition for `Fault` is true.
     ensures nothing { (result ≡ Data.Nothing) ↔ (¬ (HasFrameToMove control.0 ring.old engine.old)) }
     ensures fault { (result ≡ Data.Fault)
         ↔ (HasFrameToMove control.0 ring.old engine.old
@@ -82,6 +83,7 @@ pub fn rx_data(
     ensures engine { engine.new ≡ engine_after_data result control.0 ring.old engine.old }
     ensures ring { ring.new ≡ ring_after_data result ring.old }
     ensures memory { memory.new ≡ memory_after_data result control.0 ring.old engine.old memory.old }
+    // Whatever the result, no byte changes outside the destination of the next piece.
     ensures only { ChangesOnly memory.old memory.new
         (area_at (named_address memory.old (address_of ring.old ring.old.head))
         (length (next_piece control.0 engine.old))) }
@@ -134,7 +136,7 @@ fn next_piece<'a>(engine: &'a RxEngine, ring: &Ring, control: Rctl) -> Option<Ne
     ensures sound { IsReceiver engine.now }
 {
     let left = engine.left()?;
-    if !is_offered(ring, control) {
+    if !is_enabled_and_offered(ring, control) {
         return None;
     }
     let size = usize::from(control.buffer_size());
@@ -145,8 +147,8 @@ fn next_piece<'a>(engine: &'a RxEngine, ring: &Ring, control: Rctl) -> Option<Ne
 }
 
 /// Returns whether RCTL.EN is set, and at least one descriptor is offered.
-fn is_offered(ring: &Ring, control: Rctl) -> bool
-    ensures { IsTrue result ↔ IsOffered control.0 ring.now }
+fn is_enabled_and_offered(ring: &Ring, control: Rctl) -> bool
+    ensures { IsTrue result ↔ IsEnabledAndOffered control.0 ring.now }
 {
     control.is_enabled() && ring.head != ring.tail
 }
@@ -193,7 +195,8 @@ fn buffer_named_at(memory: &HostMemory, descriptor: u64) -> Option<u64>
     Some(RxDesc::from_bytes(bytes.first_chunk()?).address)
 }
 
-/// Returns whether exactly half of the ring's descriptors are offered, from head up to, but not including, tail.
+/// Returns whether exactly half of the ring's descriptors are offered, from head up to, but not including, tail. Head
+/// and tail must be indices of slots.
 fn is_half_offered(ring: &Ring) -> bool
     requires { HasValidIndices ring.now }
     ensures { result ≡ is_half_offered ring.now }

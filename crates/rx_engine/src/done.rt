@@ -34,8 +34,8 @@ pub enum Done {
 ///
 /// If memory ends before the end of the descriptor, nothing is written, but the piece isn't in progress any more. This
 /// case doesn't occur if `memory` has the same size as in the call of [`rx_data`](crate::rx_data) that moved the piece.
-/// If the piece is inside memory and apart from its descriptor, the finished descriptor defines this piece
-/// (`finished`).
+/// If the piece is inside memory and apart from its descriptor, the finished descriptor defines this piece (clause
+/// `finished`).
 pub fn rx_done(engine: &mut RxEngine, memory: &mut HostMemory) -> Done
     ensures nothing { (result ≡ Done.Nothing) ↔ (engine.old.work ≡ None) }
     ensures engine { engine.new ≡ engine_after_done engine.old }
@@ -72,7 +72,8 @@ fn status(ends: bool) -> RxStatus
 }
 
 /// Writes bytes 8 to 15 of the descriptor at an address: this length, DD, EOP if `ends` is true, and 0 in the other
-/// fields. The descriptor must be inside memory.
+/// fields. The descriptor must be inside memory. If the piece of this length is inside memory and apart from the
+/// descriptor, the descriptor then defines this piece (clause `finished`).
 fn write_back(memory: &mut HostMemory, descriptor: u64, length: u16, ends: bool)
     requires { LiesIn memory.old descriptor 16 }
     ensures memory { memory.new ≡ with_bytes memory.old (descriptor + 8) (finished_bytes length ends) }
@@ -90,7 +91,7 @@ fn write_back(memory: &mut HostMemory, descriptor: u64, length: u16, ends: bool)
         special: 0,
     };
     let bytes = finished.to_bytes();
-    // For the prover: the address of the length fits into 64 bits. `store_in` returns true, because the descriptor is
+    // For the prover: `descriptor + LENGTH_PLACE` fits into 64 bits. `store_in` returns true, because the descriptor is
     // inside memory.
     prove!(descriptor < memory.size());
     store_in(

@@ -60,7 +60,7 @@ impl Model for RxEngine {
     ghost invariant = { IsReceiverInside };
 }
 
-// The clauses `sound`, `before` and `after` state the invariant of an engine's value, for the proofs of callers.
+// The clauses `sound` state the invariant of an engine's value, for the proofs of callers.
 impl RxEngine {
     ghost use Rattle.rx_engine.specs.Hashed.{receiver_writes};
     ghost use Rattle.rx_engine.specs.Receiver.{new_receiver, IsReceiver, IsReady, oldest};
@@ -174,7 +174,8 @@ impl RxEngine {
 
     /// Records that a piece of the oldest frame is in progress. If the frame ends in the piece, removes the frame from
     /// the packet buffer. Otherwise adds the piece's length to the number of moved bytes. The piece must have 1 to
-    /// 1,518 bytes: the bytes that aren't moved yet if the frame ends in the piece, else fewer bytes.
+    /// 1,518 bytes. If the frame ends in the piece, the piece must be all bytes that aren't moved yet. Otherwise the
+    /// piece must be shorter.
     #[tactic(auto, using(crate::specs::RoomLaws::legal_oldest))]
     pub(crate) fn begin(&mut self, work: Work)
         requires least { 1 ≤ work.length }
@@ -185,6 +186,7 @@ impl RxEngine {
         ensures sound { IsReceiver self.new }
     {
         if work.ends {
+            // The moved bytes and the piece are the whole frame.
             self.drop_oldest(self.moved + work.length);
         } else {
             self.moved += work.length;

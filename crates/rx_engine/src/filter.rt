@@ -177,8 +177,8 @@ impl Filter {
         self.vfta.hash(hasher);
     }
 
-    /// Returns whether a frame of at least 16 bytes passes: its destination and its VLAN are accepted (3.2.1 and
-    /// chapter 9).
+    /// Returns whether a frame passes: its destination and its VLAN are accepted (3.2.1 and chapter 9). The frame must
+    /// have at least 16 bytes, because the filter reads bytes 0 to 15.
     pub fn passes(&self, frame: &[u8]) -> bool
         requires { 16 ≤ length frame.now }
         ensures { IsTrue result ↔ Passes (filter_of self.now) frame.now }

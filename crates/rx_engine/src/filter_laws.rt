@@ -2,9 +2,10 @@
 
 ghost use Rattle.rx_engine.specs.Writing.{NoAddressAtFirst, AddressIsAdded, NoNumberAtFirst, NumberIsAdded};
 
-/// The law of the sets that the filter's registers define. Registers that are 0 contain no address and no number. The
-/// two words of an address, written to an entry that isn't valid, add exactly that address. Setting a bit in MTA or
-/// VFTA adds exactly the number of this bit.
+/// The law of the sets that the filter's registers define: the receive addresses, and the numbers in MTA and VFTA.
+/// - `no_address`, `no_number`: registers that are 0 contain no address and no number.
+/// - `address`: the two words of an address, written to an entry that isn't valid, add exactly that address.
+/// - `number`: setting a bit in MTA or VFTA adds exactly the number of this bit.
 ///
 /// The function does nothing: its contract is the law.
 pub fn sets_of_registers()

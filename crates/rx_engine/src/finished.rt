@@ -91,6 +91,7 @@ fn finished_piece<'a>(memory: &'a HostMemory, ring: &Ring, place: u16) -> Option
     if !shows_done(&desc) {
         return None;
     }
+    // The piece of a done slot is inside memory, so the view succeeds.
     let piece = memory.view(desc.address, usize::from(desc.length)).ok()?;
     Some((piece, shows_end(&desc)))
 }
@@ -109,11 +110,11 @@ pub fn bytes_in_progress<'a>(memory: &'a HostMemory, work: &Work) -> Option<&'a 
     memory.view(address, usize::from(work.length)).ok()
 }
 
-/// Appends the frames that end in the finished slots of a ring, from slot `oldest` up to the first outstanding slot
-/// that isn't done. The first piece continues the frame whose beginning is in `begun`. Afterwards `begun` contains the
-/// beginning of the frame that doesn't end in these slots. `oldest` must be the index of a slot, unless no slot is
-/// outstanding. The ring and its finished pieces must be inside memory. The list must have room for these frames, and
-/// each frame must have at most 1,518 bytes.
+/// Appends the frames that end in the finished slots of a ring: the outstanding slots from slot `oldest` on, before the
+/// first one that isn't done. The first piece continues the frame whose beginning is in `begun`. Afterwards `begun`
+/// contains the beginning of the frame that doesn't end in these slots. `oldest` must be the index of a slot, unless no
+/// slot is outstanding. The ring and its finished pieces must be inside memory. The list must have room for these
+/// frames, and each frame must have at most 1,518 bytes.
 pub fn append_finished(
     memory: &HostMemory,
     ring: &Ring,
@@ -138,7 +139,8 @@ pub fn append_finished(
         return;
     }
     let mut place = oldest;
-    // The number of outstanding slots that are still to be read.
+    // The number of outstanding slots that are still to be read. `Ring::distance` would require that the tail is the
+    // index of a slot.
     let mut left = (u32::from(ring.tail) + count - u32::from(oldest)) % count;
     while left > 0 {
         let Some((bytes, ends)) = finished_piece(memory, ring, place) else {

@@ -4,8 +4,9 @@ ghost use Rattle.rx_engine.specs.Held.{ArrivalGrowsHeld, DataKeepsHeld, DoneKeep
 ghost use Rattle.rx_engine.specs.Held.{OtherBytesLeaveSlots};
 
 /// Laws of the frames that a host and its engine hold. First come the frames that end in finished slots or in the slot
-/// in progress, each with its pieces joined. The frames in the packet buffer follow. The pieces in slots after the
-/// last end of a frame, joined, are the moved bytes of the packet buffer's oldest frame.
+/// in progress, each with its pieces joined. The frames in the packet buffer follow. The first three laws require and
+/// preserve `HasBegun`: the pieces in slots after the last end of a frame, joined, are the moved bytes of the packet
+/// buffer's oldest frame.
 /// - `arrival`: a stored frame is added after the others. An arrival with another fate doesn't change the frames held.
 /// - `data`: a data step doesn't change the frames held, if the destination of the piece is apart from the piece's
 ///   descriptor.

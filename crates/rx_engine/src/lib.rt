@@ -21,7 +21,7 @@ mod laws;
 mod storing;
 mod table;
 
-pub use address::{AddressWords, hash_of};
+pub use address::{ADDRESS_VALID, AddressWords, hash_of};
 pub use arrival::{Fate, arrive};
 pub use data::{Data, has_frame_to_move, rx_data};
 pub use done::{Done, rx_done};

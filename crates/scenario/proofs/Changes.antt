@@ -3,6 +3,7 @@ use Rattle.std.proofs.Common.{◌≡◌, ◌∙◌, ◌+◌, ◌<◌, ◌≤◌,
 use Rattle.std.proofs.Common.{Option, Some, None, Result, Ok, Err, length, get_or, set, not, ap, sym, subst, refl, arith}
 use Rattle.std.proofs.lemmas.List.{get_or-map, length-map, map-set}
 use Rattle.std.proofs.lemmas.List.Quantifiers.{position-Some}
+use Rattle.std.proofs.Math.Seq.{map-set_same}
 use Rattle.std.specs.List.{find, position_or_len}
 use Rattle.std.specs.Option.{IsSomeAnd}
 use Rattle.network_plan.specs.declared.plan.HostPlan.{HostPlan}
@@ -63,8 +64,11 @@ change-host name held most change plans place plan new (Ok u) found growth =
           ∙ found-set (has_name name) change (hosts_of plans) place (host_of_plan plan) is.below is.named is.others,
     )
 change-host name held most change plans place plan new (Err stopped) found growth =
-    let is = is-first name plans place plan found in
-    (growth.0, λ room. growth.1 (subst (λ (o : Option Host). IsSomeAnd o (λ host. held host < most)) is.found room))
+    let is = is-first name plans place plan found in (
+      growth.0,
+      λ room. growth.1 (subst (λ (o : Option Host). IsSomeAnd o (λ host. held host < most)) is.found room),
+      map-set_same host_of_plan plans place new plan growth.2,
+    )
 
 find-none : (p : Host → Bool) (xs : List Host) → length xs ≤ position_or_len p xs → find p xs ≡ None
 find-none p [] long = refl

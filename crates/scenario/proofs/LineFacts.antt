@@ -6,7 +6,7 @@ use Rattle.std.proofs.lemmas.List.{length-map}
 use Rattle.network_plan.specs.declared.plan.HostPlan.{HostPlan}
 use Rattle.stations.specs.declared.tick.Tick.{Tick}
 use Rattle.scenario.specs.Answers.{IsAnswerToLine, IsFaulty, IsFaultyCall, IsGood}
-use Rattle.scenario.specs.HostOptions.{AreCounted, AreRead, uses_in}
+use Rattle.scenario.specs.HostOptions.{HaveValuesOnce, HaveRightForms, uses_in}
 use Rattle.scenario.specs.Meanings.{CanAsk, HasHostWords, HasValues, IsRoomFor, after_line, call_words, changed_first}
 use Rattle.scenario.specs.Meanings.{number_of, option_words, said_in_call, size_of_call, tick_words, ticks_in, with_command, with_item}
 use Rattle.scenario.specs.SoFar.{Host, Said, SoFar, has_name, hosts_of, said_of}
@@ -28,17 +28,17 @@ pub text-count : (words : List (Bor Text)) → length (texts words) ≡ length w
 text-count words = length-map words (λ (one : Bor Text). one.now)
 
 pub host-counted : (words : List (Bor Text)) (uses : List HostUse) (test : Bool) → 4 ≤ length words
-    → uses ≡ uses_in (option_words (texts words)) → IsTrue test ↔ AreCounted uses → test ≡ true → HasHostWords (texts words)
+    → uses ≡ uses_in (option_words (texts words)) → IsTrue test ↔ HaveValuesOnce uses → test ≡ true → HasHostWords (texts words)
 host-counted words uses test least is told passes = record {
   least = omega (arith, text-count words, least);
-  options = subst AreCounted is (told.0 passes);
+  options = subst HaveValuesOnce is (told.0 passes);
 }
 
 pub host-valued : (words : List (Bor Text)) (uses : List HostUse) (address : Text) (test : Bool) → address ≡ word 2 (texts words)
-    → IsAddressText address → uses ≡ uses_in (option_words (texts words)) → IsTrue test ↔ AreRead uses → test ≡ true
+    → IsAddressText address → uses ≡ uses_in (option_words (texts words)) → IsTrue test ↔ HaveRightForms uses → test ≡ true
     → HasValues line.Host (texts words)
 host-valued words uses address test address_is spelled is told passes =
-    (subst IsAddressText address_is spelled, subst AreRead is (told.0 passes))
+    (subst IsAddressText address_is spelled, subst HaveRightForms is (told.0 passes))
 
 pub no-place : (place : Option ℕ) (test : Bool) → test ≡ is_some place → test ≡ false → place ≡ None
 no-place None test is fails = refl

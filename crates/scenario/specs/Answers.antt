@@ -51,21 +51,22 @@ IsAnswerToLine kind before words (Ok u) after = IsGood kind before words × (aft
 IsAnswerToLine kind before words (Err stop) after = IfFault stop (IsFaulty kind before words)
 
 -- The result of adding an item to a host: Ok if the host has room, and then the item was added; Name if the host has no
--- room. Nothing is stated about the host (`after`) if the item wasn't added.
+-- room, and then the host doesn't change.
 abbrev pub IsGrowth : (Host → ℕ) → ℕ → (Host → Host) → Host → Result (Unit {0}) Fault → Host → Type 0
 IsGrowth held most change host (Ok u) after = (held host < most) × (after ≡ change host)
-IsGrowth held most change host (Err stopped) after = (stopped ≡ fault.Name) × (¬ (held host < most))
+IsGrowth held most change host (Err stopped) after = (stopped ≡ fault.Name) × (¬ (held host < most)) × (after ≡ host)
 
 -- the result of adding this item to a host, and the host after the call
 abbrev pub Gains : Item → Host → Result (Unit {0}) Fault → Host → Type 0
 Gains one = IsGrowth (items_held one) (most_items one) (with_item one)
 
 -- The result of adding an item to the first host of this name: Ok if there is such a host and it has room, and then the
--- item was added. Name if there is no such host, or it has no room.
+-- item was added. Name if there is no such host, or it has no room; then no host changes.
 abbrev pub IsChange : Text → (Host → ℕ) → ℕ → (Host → Host) → List Host → Result (Unit {0}) Fault → List Host → Type 0
 IsChange name held most change hosts (Ok u) after =
     IsRoomAt name held most hosts × (after ≡ changed_first (has_name name) change hosts)
-IsChange name held most change hosts (Err stopped) after = (stopped ≡ fault.Name) × (¬ IsRoomAt name held most hosts)
+IsChange name held most change hosts (Err stopped) after =
+    (stopped ≡ fault.Name) × (¬ IsRoomAt name held most hosts) × (after ≡ hosts)
 
 -- A `host` line with these words is valid, and the words spell this address and these options.
 pub record IsHostRead (before : SoFar) (words : List Text) (read : List ℕ × HostOptions) : Type 0 where

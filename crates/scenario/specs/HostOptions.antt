@@ -62,10 +62,12 @@ abbrev pub follows : Option OptionKind → Bool
 follows (Some kind) = takes_value kind
 follows None = false
 
+-- the use of an option with its value; `Unknown` if the word isn't an option (`None`)
 abbrev pub use_with : Option OptionKind → Text → HostUse
 use_with (Some kind) value = use_of kind value
 use_with None value = uses.Unknown
 
+-- the use of an option that no value follows; `Unknown` if the word isn't an option (`None`)
 abbrev pub use_without : Option OptionKind → HostUse
 use_without (Some kind) = lone_use kind
 use_without None = uses.Unknown
@@ -79,6 +81,7 @@ uses_in (word ∷ value ∷ words) =
     if follows (option_named word) then use_with (option_named word) value ∷ uses_in words
     else use_without (option_named word) ∷ uses_in (value ∷ words)
 
+-- whether two options are the same
 abbrev pub is_same_option : OptionKind → OptionKind → Bool
 is_same_option option.Rx option.Rx = true
 is_same_option option.Tx option.Tx = true
@@ -100,6 +103,7 @@ kind_of_use (uses.Rxa n) = Some option.Rxa
 kind_of_use (uses.Link l) = Some option.Link
 kind_of_use uses.Promiscuous = Some option.Promiscuous
 
+-- whether the used option, if there is one, is this option
 abbrev pub is_some_of : OptionKind → Option OptionKind → Bool
 is_some_of kind (Some own) = is_same_option own kind
 is_some_of kind None = false
@@ -129,12 +133,12 @@ pub record AreOnce (given : List HostUse) : Type 0 where
   pub promiscuous : count_by (is_use_of option.Promiscuous) given ≤ 1
 
 -- Each option that takes a value has one, and each option is used at most once.
-pub record AreCounted (given : List HostUse) : Type 0 where
+pub record HaveValuesOnce (given : List HostUse) : Type 0 where
   pub whole : All (λ one. is_whole one ≡ true) given
   pub once : AreOnce given
 
 -- Each use is of a known option, and the option's value, if there is one, has the right form.
-pub record AreRead (given : List HostUse) : Type 0 where
+pub record HaveRightForms (given : List HostUse) : Type 0 where
   pub all : All (λ one. is_read one ≡ true) given
 
 -- the values of options that a line doesn't use

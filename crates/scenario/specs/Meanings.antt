@@ -9,7 +9,7 @@ use Rattle.packet_socket.specs.declared.socket_kind.SocketKind.{SocketKind}
 use Rattle.packet_socket.specs.declared.socket_kind.SocketKind.TheVariants as socket
 use Rattle.stations.specs.declared.tick.Tick.{Tick}
 use Rattle.stations.specs.declared.tick.Tick.TheVariants as tick
-use Rattle.scenario.specs.HostOptions.{AreCounted, AreRead, options_asked, uses_in}
+use Rattle.scenario.specs.HostOptions.{HaveValuesOnce, HaveRightForms, options_asked, uses_in}
 use Rattle.scenario.specs.SoFar.{Host, Said, SoFar, Sends, Receives, Interrupts, Resets, Joins, Leaves, Ticks, Feeds, Draws, Drains}
 use Rattle.scenario.specs.SoFar.{has_name, host_place, said_of_call}
 use Rattle.scenario.specs.Spellings.{IsAddressText, IsFrame, address_in, frame_in, socket_in}
@@ -63,9 +63,9 @@ ticks_in hosts words = map (λ one. unwrap_or (tick_named hosts one) tick.Go) wo
 -- A `host` line has at least 4 words, each option that takes a value has one, and no option occurs twice.
 pub record HasHostWords (words : List Text) : Type 0 where
   pub least : 4 ≤ length words
-  pub options : AreCounted (uses_in (option_words words))
+  pub options : HaveValuesOnce (uses_in (option_words words))
 
--- the number of words of a call of this kind, without the slash and the ticks
+-- the number of words of a line with a call of this kind, without the slash and the ticks
 abbrev pub size_of_call : CallKind → ℕ
 size_of_call call.Interrupt = 2
 size_of_call call.Reset = 2
@@ -98,7 +98,7 @@ CanAsk call.Leave words = IsAddressText (word 2 words)
 
 -- Each word of a line of this kind has the form for its place.
 abbrev pub HasValues : LineKind → List Text → Type 0
-HasValues line.Host words = IsAddressText (word 2 words) × AreRead (uses_in (option_words words))
+HasValues line.Host words = IsAddressText (word 2 words) × HaveRightForms (uses_in (option_words words))
 HasValues (line.Item one) words = IsItem one (word 2 words)
 HasValues (line.Call one) words = CanAsk one (call_words words) × (are_ticks (tick_words words) ≡ true)
 HasValues line.Tick words = is_tick (word 1 words) ≡ true
@@ -202,13 +202,16 @@ abbrev pub host_of_words : List Text → Host
 host_of_words words = host_described (word 1 words) (address_in (word 2 words)) (word 3 words) (options_asked (uses_in
     (option_words words)))
 
+-- the host with this group appended to its groups
 abbrev pub with_group : List ℕ → Host → Host
 with_group group host = record host { config = record host.config { groups = record { items = host.config.groups.items ++ group ∷ [] } } }
 
+-- the host with this VLAN appended to its list of VLANs; the first VLAN of a host begins the list
 abbrev pub with_vlan : ℕ → Host → Host
 with_vlan vlan host =
     record host { config = record host.config { vlans = Some (record { items = vlans_of host.config.vlans ++ vlan ∷ [] }) } }
 
+-- the host with this socket appended to its sockets
 abbrev pub with_socket : SocketKind → Host → Host
 with_socket kind host = record host { sockets = host.sockets ++ kind ∷ [] }
 

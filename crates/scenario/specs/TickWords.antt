@@ -43,7 +43,7 @@ host_word word = after_first is_colon word
 abbrev pub has_colon : Text → Bool
 has_colon word = nat_lt (position_or_len is_colon word) (length word)
 
--- whether a word spells a tick: `go`, or the name of a kind, a colon, and any name of a host
+-- whether a word spells a tick: `go`, or the name of a kind, a colon, and any text as the name of a host
 abbrev pub is_tick : Text → Bool
 is_tick word = bytes_eq word (codes "go") || (has_colon word && is_some (tick_kind_named (tick_kind_word word)))
 

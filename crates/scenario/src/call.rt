@@ -25,7 +25,7 @@ pub enum Call {
 
 impl Call {
     /// Returns the event of this call at a host, during which these ticks are played. The event borrows the frame of a
-    /// send, and the ticks.
+    /// send, and the ticks. The clause compares the event and the call as commands, without borrows.
     pub fn event<'a>(&'a self, host: usize, ticks: &'a [Tick]) -> Event<'a>
         ensures { command_of_event result ≡ said_of_call self.now host ticks.now }
     {

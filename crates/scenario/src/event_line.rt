@@ -31,7 +31,7 @@ const MOST_EVENTS: u64 = 1_000_000;
 /// The word between the words of a call and the words of its ticks.
 const SLASH: &str = "/";
 
-/// Returns whether each word spells a tick.
+/// Returns whether each word spells a tick. Whether the hosts of these ticks exist isn't tested.
 fn are_ticks(words: &[&str]) -> bool
     ensures { result ≡ meanings.are_ticks (texts words.now) }
 {
@@ -59,13 +59,14 @@ fn ticks_of(alloc: Global, hosts: &[HostPlan], words: &[&str]) -> Result<Vec<Tic
     Ok(ticks)
 }
 
-/// Returns the number of the host of a call, and the ticks that are played during the call.
+/// Returns the number of the host with this name, and the ticks that the words `ticks` spell. These are the host of a
+/// call, and the ticks that are played during the call.
 ///
 /// # Errors
 ///
 /// [`Value`](Fault::Value) if a word of `ticks` doesn't spell a tick, else [`Name`](Fault::Name) if the host `name` or
 /// the host of a tick isn't known. Or [`Memory`](Stop::Memory) if memory is refused.
-fn call_of(
+fn host_and_ticks_of(
     alloc: Global,
     hosts: &[HostPlan],
     name: &str,
@@ -93,7 +94,8 @@ fn push_command(scenario: &mut Scenario, command: Command) -> Result<(), Stop>
     Ok(())
 }
 
-/// Returns the number of words of a call of this kind, without the slash and the ticks.
+/// Returns the number of words of a line with a call of this kind, without the slash and the ticks. The first two words
+/// are the name of the call and the host.
 fn size_of_call(kind: CallKind) -> usize
     ensures { result ≡ meanings.size_of_call kind }
 {
@@ -103,7 +105,9 @@ fn size_of_call(kind: CallKind) -> usize
     }
 }
 
-/// Returns the call of this kind that these words spell. The number of words must be that of [`size_of_call`].
+/// Returns the call of this kind that the words `call` spell: the words of a line, without the slash and the ticks. The
+/// number of these words must be that of [`size_of_call`]. A [`Call`] doesn't contain its host, so the host's name
+/// isn't read.
 ///
 /// # Errors
 ///
@@ -139,7 +143,7 @@ fn asked_of(alloc: Global, kind: CallKind, call: &[&str]) -> Result<Call, Stop>
 }
 
 /// Reads a line of a call: `send HOST HEX`, `recv HOST S`, `interrupt HOST`, `reset HOST`, `join HOST ADDRESS` or
-/// `leave HOST ADDRESS`. A word `/` and the words of the call's ticks may follow.
+/// `leave HOST ADDRESS`. A word `/` and the words of the call's ticks may follow. Appends the call as a command.
 pub(crate) fn read_call(
     alloc: Global,
     scenario: &mut Scenario,
@@ -153,11 +157,11 @@ pub(crate) fn read_call(
         return Err(Stop::Fault(Fault::Count));
     }
     let call = asked_of(alloc, kind, words)?;
-    let (host, ticks) = call_of(alloc, scenario.hosts(), word_at(words, 1), ticks)?;
+    let (host, ticks) = host_and_ticks_of(alloc, scenario.hosts(), word_at(words, 1), ticks)?;
     push_command(scenario, Command::Call { host, call, ticks })
 }
 
-/// Reads a line `tick TICK`.
+/// Reads a line `tick TICK`, and appends the tick as a command.
 pub(crate) fn read_tick(scenario: &mut Scenario, words: &[&str]) -> Result<(), Stop>
     ensures { IsAnswerToLine line.Tick (so_far scenario.old) (texts words.now) result (so_far scenario.new) }
 {
@@ -174,7 +178,7 @@ pub(crate) fn read_tick(scenario: &mut Scenario, words: &[&str]) -> Result<(), S
     push_command(scenario, Command::Tick(tick))
 }
 
-/// Reads a line `feed HOST FILE`.
+/// Reads a line `feed HOST FILE`. Appends FILE to the names of traces, and a command that feeds this trace.
 pub(crate) fn read_feed(alloc: Global, scenario: &mut Scenario, words: &[&str]) -> Result<(), Stop>
     ensures { IsAnswerToLine line.Feed (so_far scenario.old) (texts words.now) result (so_far scenario.new) }
 {
@@ -203,7 +207,7 @@ fn count_of(text: &str) -> Option<u32>
     Some(count as u32)
 }
 
-/// Reads a line `auto COUNT START`.
+/// Reads a line `auto COUNT START`, and appends a command that draws COUNT events with the seed START.
 pub(crate) fn read_auto(scenario: &mut Scenario, words: &[&str]) -> Result<(), Stop>
     ensures { IsAnswerToLine line.Auto (so_far scenario.old) (texts words.now) result (so_far scenario.new) }
 {
@@ -219,7 +223,7 @@ pub(crate) fn read_auto(scenario: &mut Scenario, words: &[&str]) -> Result<(), S
     push_command(scenario, Command::Auto { count, start })
 }
 
-/// Reads a line `drain HOST`.
+/// Reads a line `drain HOST`, and appends a command that drains the host.
 pub(crate) fn read_drain(scenario: &mut Scenario, words: &[&str]) -> Result<(), Stop>
     ensures { IsAnswerToLine line.Drain (so_far scenario.old) (texts words.now) result (so_far scenario.new) }
 {

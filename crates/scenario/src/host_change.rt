@@ -23,11 +23,12 @@ pub(crate) enum Item {
     Group([u8; 6]),
     /// The VLAN with this identifier.
     Vlan(u16),
-    /// A socket.
+    /// A socket for these frames.
     Socket(SocketKind),
 }
 
-/// Appends the host of a `host` line. The host has no groups, no list of VLANs and no sockets yet.
+/// Appends the host of a `host` line. The host has no groups and no sockets yet. It has no list of VLANs, so frames of
+/// all VLANs pass its filter.
 ///
 /// # Errors
 ///
@@ -43,6 +44,7 @@ pub(crate) fn add_host(
     ensures { OnOk result (hosts_of hosts.new.items
         ≡ hosts_of hosts.old.items ++ meanings.host_described name.now address wire.now options ∷ []) }
 {
+    // With room for the host, appending the host can't fail.
     hosts.reserve(1)?;
     let name = String::from_str(alloc, name)?;
     let wire = String::from_str(alloc, wire)?;
@@ -76,18 +78,16 @@ fn push_group(host: &mut HostPlan, group: [u8; 6]) -> Result<(), Fault>
     Ok(())
 }
 
-/// Adds a VLAN to a host. Fails with [`Name`](Fault::Name) if the host has no room for another VLAN; then the host has
-/// lost its list of VLANs.
+/// Adds a VLAN to a host. Fails with [`Name`](Fault::Name) if the host has no room for another VLAN.
 fn push_vlan(host: &mut HostPlan, vlan: u16) -> Result<(), Fault>
     ensures { Gains (Vlan vlan) (host_of_plan host.old) result (host_of_plan host.new) }
 {
     // The first VLAN of a host begins the host's list.
-    let mut vlans = host.config.vlans.take().unwrap_or(ArrayVec::new());
+    let vlans = host.config.vlans.get_or_insert(ArrayVec::new());
     if vlans.is_full() {
         return Err(Fault::Name);
     }
     vlans.push(vlan);
-    host.config.vlans = Some(vlans);
     Ok(())
 }
 
@@ -102,8 +102,8 @@ fn push_socket(host: &mut HostPlan, kind: SocketKind) -> Result<(), Fault>
     Ok(())
 }
 
-/// Adds an item to a host. Fails with [`Name`](Fault::Name) if the host has no room for the item; then the host may
-/// have lost its list of VLANs.
+/// Adds an item to a host. Fails with [`Name`](Fault::Name) if the host has no room for the item; then the host doesn't
+/// change.
 fn push_item(host: &mut HostPlan, item: Item) -> Result<(), Fault>
     ensures { Gains item (host_of_plan host.old) result (host_of_plan host.new) }
 {
@@ -115,7 +115,7 @@ fn push_item(host: &mut HostPlan, item: Item) -> Result<(), Fault>
 }
 
 /// Adds an item to the first host with this name. Fails with [`Name`](Fault::Name) if there is no such host, or if the
-/// host has no room for the item; then the host may have lost its list of VLANs.
+/// host has no room for the item. Then no host changes.
 #[tactic(auto, using(crate::proofs::Changes::no_room))]
 pub(crate) fn add_item(hosts: &mut [HostPlan], name: &str, item: Item) -> Result<(), Fault>
     ensures { IsChange name.now (meanings.items_held item) (meanings.most_items item) (meanings.with_item item)

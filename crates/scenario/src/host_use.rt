@@ -132,7 +132,7 @@ impl HostUse {
         ensures { result ≡ options.is_use_of kind self.now }
     {
         match self.kind() {
-            Some(own) => own == kind,
+            Some(used) => used == kind,
             None => false,
         }
     }
@@ -144,7 +144,8 @@ impl HostUse {
         !matches!(self, HostUse::Lone(_))
     }
 
-    /// Returns whether the word is an option, and the option's value, if there is one, has the right form.
+    /// Returns whether the word is an option, and the option's value, if there is one, has the right form. So the
+    /// result is `true` for an option that lacks its value.
     fn is_read(&self) -> bool
         ensures { result ≡ options.is_read self.now }
     {
@@ -201,7 +202,8 @@ fn option_of(word: &str) -> Option<OptionKind>
     value_of(&OPTION_KINDS, word)
 }
 
-/// Returns the use that begins with `word`, and how many of the later words `behind` belong to this use: 0 or 1.
+/// Returns the use that begins with `word`, and the number of later words that belong to this use: 0 or 1. `behind`
+/// contains the words after `word`.
 fn first_use(word: &str, behind: &[&str]) -> (HostUse, usize)
     ensures first { options.uses_in (word.now ∷ texts behind.now)
         ≡ result.0 ∷ options.uses_in (texts (drop result.1 behind.now)) }
@@ -234,7 +236,7 @@ pub(crate) fn uses_of(alloc: Global, words: &[&str]) -> Result<Vec<HostUse>, All
     Ok(uses)
 }
 
-/// Returns whether an option is used at most once.
+/// Returns whether these uses contain at most one use of this option.
 fn is_once(uses: &[HostUse], kind: OptionKind) -> bool
     ensures { IsTrue result ↔ (count_by (options.is_use_of kind) uses.now ≤ 1) }
 {
@@ -253,16 +255,18 @@ fn are_once(uses: &[HostUse]) -> bool
         && is_once(uses, OptionKind::Promiscuous)
 }
 
-/// Returns whether each option that takes a value has one, and each option is used at most once.
-pub(crate) fn are_counted(uses: &[HostUse]) -> bool
-    ensures { IsTrue result ↔ options.AreCounted uses.now }
+/// Returns whether each option that takes a value has one, and each option is used at most once. If not, the line has
+/// the fault `Count`.
+pub(crate) fn have_values_once(uses: &[HostUse]) -> bool
+    ensures { IsTrue result ↔ options.HaveValuesOnce uses.now }
 {
     uses.iter().all(HostUse::is_whole) && are_once(uses)
 }
 
-/// Returns whether each word is an option, and the option's value, if there is one, has the right form.
-pub(crate) fn are_read(uses: &[HostUse]) -> bool
-    ensures { IsTrue result ↔ options.AreRead uses.now }
+/// Returns whether each use is of a known option, and the option's value, if there is one, has the right form. If not,
+/// a line without the fault `Count` has the fault `Value`.
+pub(crate) fn have_right_forms(uses: &[HostUse]) -> bool
+    ensures { IsTrue result ↔ options.HaveRightForms uses.now }
 {
     uses.iter().all(HostUse::is_read)
 }

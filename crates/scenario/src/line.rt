@@ -17,8 +17,11 @@ use text::{word_at, words_in};
 /// The maximum number of bytes of a line (our choice).
 const MOST_LINE_BYTES: usize = 8192;
 
-/// Reads the words of a line of this kind, and adds its host, item or command to the scenario. Otherwise returns the
-/// first fault of the line, or that memory was refused; then the scenario may have changed.
+/// Reads the words of a line of this kind, and adds the line's host, item or command to the scenario.
+///
+/// # Errors
+///
+/// The first fault of the line, or [`Memory`](Stop::Memory) if memory is refused. Then the scenario may have changed.
 fn read_kind(
     alloc: Global,
     scenario: &mut Scenario,
@@ -48,7 +51,8 @@ fn is_skipped(words: &[&str]) -> bool
     }
 }
 
-/// Reads the words of a line, unless the line is skipped.
+/// Reads the words of a line, unless the line is skipped. Fails with [`Word`](Fault::Word) if the first word names no
+/// kind of line; the other errors are those of `read_kind`.
 fn read_words(alloc: Global, scenario: &mut Scenario, words: &[&str]) -> Result<(), Stop>
     ensures { IsWordsAnswer (so_far scenario.old) (texts words.now) result (so_far scenario.new) }
 {
@@ -61,8 +65,12 @@ fn read_words(alloc: Global, scenario: &mut Scenario, words: &[&str]) -> Result<
     }
 }
 
-/// Reads a line, and adds its host, item or command to the scenario. A skipped line adds nothing, but each line must
-/// have at most 8,192 bytes and be UTF-8. After an error, the scenario may have changed.
+/// Reads a line, and adds its host, item or command to the scenario. A skipped line adds nothing.
+///
+/// # Errors
+///
+/// The first fault of the line, or [`Memory`](Stop::Memory) if memory is refused. Then the scenario may have changed. A
+/// skipped line can have only the faults [`Long`](Fault::Long) and [`Text`](Fault::Text).
 pub(crate) fn read_line(alloc: Global, scenario: &mut Scenario, line: &[u8]) -> Result<(), Stop>
     ensures { IsLineAnswer (so_far scenario.old) line.now result (so_far scenario.new) }
 {

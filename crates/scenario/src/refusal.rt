@@ -55,7 +55,8 @@ pub(crate) enum Stop {
 impl Stop {
     ghost use Rattle.scenario.specs.Stops.{refusal_at};
 
-    /// Returns the refusal of a text in which the line with this number wasn't read for this reason.
+    /// Returns the refusal of a text in which the line with this number wasn't read for this reason. If memory was
+    /// refused, the refusal contains no number.
     pub(crate) fn at(self, line: usize) -> Refusal
         ensures { result ≡ refusal_at line self }
     {
@@ -82,6 +83,8 @@ impl From<AllocError> for Stop {
     }
 }
 
+// An `AllocFailed` contains the value that wasn't stored, such as the item of a `push`. The conversion drops this
+// value.
 impl<T: Drop> From<AllocFailed<T>> for Stop {
     ghost from_gives = { λ _ stopped. stopped ≡ stop.Memory };
 

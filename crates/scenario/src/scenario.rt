@@ -45,9 +45,9 @@ fn without_return(line: &[u8]) -> &[u8]
     kept
 }
 
-/// Returns the first line of a text, without its line feed and a carriage return before the line feed. Also returns the
-/// number of bytes up to and including the line feed. A text without a line feed is one line, and all its bytes are
-/// returned. The text must not be empty.
+/// Returns the first line of a text that isn't empty, without its line feed and a carriage return before the line feed.
+/// Also returns the number of bytes up to and including the line feed. A text without a line feed is one line, and all
+/// its bytes are returned, also a carriage return at the end.
 fn first_line(text: &[u8]) -> (&[u8], usize)
     requires { 0 < length text.now }
     ensures first { lines text.now ≡ result.0.now ∷ lines (drop result.1 text.now) }
@@ -55,6 +55,7 @@ fn first_line(text: &[u8]) -> (&[u8], usize)
     ensures within { result.1 ≤ length text.now }
 {
     let end = line_end(text);
+    // Without a line feed, `end` is the text's length.
     if end == text.len() {
         return (text, end);
     }
@@ -94,7 +95,7 @@ fn read_numbered(
 }
 
 impl Scenario {
-    /// Reads the text of a scenario.
+    /// Reads the text of a scenario, up to its first faulty line. Skipped lines have numbers, too.
     ///
     /// # Errors
     ///

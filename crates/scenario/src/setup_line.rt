@@ -14,7 +14,9 @@ ghost use Rattle.scenario.specs.declared.line_kind.LineKind.TheVariants as line;
 
 use crate::command::Scenario;
 use crate::host_change::{Item, add_host, add_item};
-use crate::host_use::{HostOptions, HostUse, are_counted, are_read, options_of, uses_of};
+use crate::host_use::{
+    HostOptions, HostUse, have_right_forms, have_values_once, options_of, uses_of,
+};
 use crate::line_kind::ItemKind;
 use crate::refusal::{Fault, Stop};
 use crate::spelling::{address_of, number16_of, socket_of};
@@ -54,10 +56,10 @@ fn values_in(
     ensures ok { IfOk result (λ read. IsHostRead (so_far scenario.now) (texts words.now) (read.0, read.1)) }
     ensures err { IfErr result (IsFaulty line.Host (so_far scenario.now) (texts words.now)) }
 {
-    if !are_counted(uses) {
+    if !have_values_once(uses) {
         return Err(Fault::Count);
     }
-    if !are_read(uses) {
+    if !have_right_forms(uses) {
         return Err(Fault::Value);
     }
     let Some(address) = address_of(word_at(words, 2)) else {
@@ -96,7 +98,7 @@ fn host_values(
     }
 }
 
-/// Reads a line `host NAME ADDRESS WIRE`, followed by its options.
+/// Reads a line `host NAME ADDRESS WIRE`, followed by its options, and appends the new host.
 pub(crate) fn read_host(alloc: Global, scenario: &mut Scenario, words: &[&str]) -> Result<(), Stop>
     ensures { IsAnswerToLine line.Host (so_far scenario.old) (texts words.now) result (so_far scenario.new) }
 {
@@ -124,7 +126,8 @@ fn item_of(kind: ItemKind, text: &str) -> Option<Item>
     }
 }
 
-/// Reads a line `group HOST ADDRESS`, `vlan HOST N`, `socket HOST N` or `socket HOST all`.
+/// Reads a line `group HOST ADDRESS`, `vlan HOST N`, `socket HOST N` or `socket HOST all`, and adds the item to the
+/// host.
 pub(crate) fn read_item(scenario: &mut Scenario, kind: ItemKind, words: &[&str]) -> Result<(), Stop>
     ensures { IsAnswerToLine (line.Item kind) (so_far scenario.old) (texts words.now) result (so_far scenario.new) }
 {

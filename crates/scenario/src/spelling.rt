@@ -12,7 +12,7 @@ use crate::refusal::{Fault, Stop};
 use hex::FromHexError;
 use packet_socket::SocketKind;
 use std::alloc::Global;
-use text::digits_of;
+use text::{DECIMAL, HEXADECIMAL, number_in_radix};
 
 /// The maximum number of hexadecimal digits of a frame (our choice).
 const MOST_FRAME_DIGITS: usize = 8000;
@@ -20,17 +20,11 @@ const MOST_FRAME_DIGITS: usize = 8000;
 /// The number of hexadecimal digits of a socket's EtherType (our choice).
 const ETHER_TYPE_DIGITS: usize = 4;
 
-/// The radix of decimal numbers.
-const DECIMAL: u32 = 10;
-
-/// The radix of hexadecimal numbers.
-const HEXADECIMAL: u32 = 16;
-
 /// Returns the number below 2^64 that a text of decimal digits spells; `None` for any other text.
 pub(crate) fn number_of(text: &str) -> Option<u64>
     ensures { result ≡ number_in 10 64 text.now }
 {
-    digits_of(text, DECIMAL)
+    number_in_radix(text, DECIMAL)
 }
 
 /// Returns the number below 2^16 that a text of decimal digits spells; `None` for any other text.
@@ -54,7 +48,7 @@ fn ether_type_of(text: &str) -> Option<u16>
     if text.len() != ETHER_TYPE_DIGITS {
         return None;
     }
-    u16::try_from(digits_of(text, HEXADECIMAL)?).ok()
+    u16::try_from(number_in_radix(text, HEXADECIMAL)?).ok()
 }
 
 /// Returns which frames a socket takes: `all` spells [`All`](SocketKind::All), and four hexadecimal digits spell an
@@ -68,18 +62,19 @@ pub(crate) fn socket_of(text: &str) -> Option<SocketKind>
     ether_type_of(text).map(SocketKind::Ether)
 }
 
-/// Returns the address that six pairs of hexadecimal digits spell, joined by colons; `None` for any other text.
+/// Returns the address that six pairs of hexadecimal digits spell, joined by colons; `None` for any other text. Does
+/// what [`text::address_of`] does, with a contract that computes the address from the text.
 pub(crate) fn address_of(text: &str) -> Option<[u8; 6]>
     ensures { SomeIff result (IsAddressText text.now) (address_in text.now) }
 {
     text::address_of(text)
 }
 
-/// Returns the bytes that pairs of hexadecimal digits spell.
+/// Returns the bytes that a text spells, with two hexadecimal digits for each byte.
 ///
 /// # Errors
 ///
-/// [`Value`](Fault::Value) if there are other characters, an odd number of digits, or more than 8,000 digits. Or
+/// [`Value`](Fault::Value) if a character isn't a hexadecimal digit, or if the number of digits is odd or above 8,000.
 /// [`Memory`](Stop::Memory) if memory is refused.
 pub(crate) fn frame_of(alloc: Global, text: &str) -> Result<Vec<u8>, Stop>
     ensures ok { IfOk result (λ frame. IsFrame text.now × (frame.items ≡ frame_in text.now)) }

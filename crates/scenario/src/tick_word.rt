@@ -19,7 +19,7 @@ pub(crate) enum TickKind {
 }
 
 impl TickKind {
-    /// Returns the tick of this kind at a host.
+    /// Returns the tick of this kind at the host with this number.
     fn at(self, host: usize) -> Tick
         ensures { result ≡ words.tick_at self host }
     {
@@ -57,7 +57,8 @@ pub(crate) fn host_named(hosts: &[HostPlan], name: &str) -> Option<usize>
     hosts.iter().position(|host| host.name.as_str() == name)
 }
 
-/// Returns whether a word spells a tick: `go`, or the name of a kind, a colon, and any name of a host.
+/// Returns whether a word spells a tick: `go`, or the name of a kind, a colon, and any text as the name of a host.
+/// Whether there is such a host isn't tested.
 pub(crate) fn is_tick(word: &str) -> bool
     ensures { result ≡ words.is_tick word.now }
 {

@@ -12,7 +12,7 @@ use Rattle.std.specs.Prelude.{unwrap_or}
 use Rattle.pcap_trace.specs.declared.trace.Trace.{Trace}
 use Rattle.scenario.specs.declared.command.Command.{Command}
 use Rattle.scenario.specs.declared.command.Command.TheVariants as command
-use Rattle.scenario_bench.specs.EventLists.{all_events, behind_send, events_of, fed, pieces_for, words_from}
+use Rattle.scenario_bench.specs.EventLists.{all_events, events_after_send, events_of, fed, pieces_for, words_from}
 use Rattle.network_plan.specs.declared.event.Event.{Event}
 use Rattle.network_plan.specs.declared.event.Event.TheVariants as event
 use Rattle.network_plan.specs.declared.reply.Reply.{Reply}
@@ -242,7 +242,7 @@ draw_stops event words left word generator later said a b c error has some is sa
 
 pub sent : (hosts : List Host) (sender : ℕ) (frame : List ℕ) (events : List Event) (a b c : Play)
     → HasPlayed (Sends sender frame [] ∷ []) a b
-    → map command_of_event events ≡ behind_send hosts sender (pieces_for (length frame)) → HasPlayed (map command_of_event events) b c
+    → map command_of_event events ≡ events_after_send hosts sender (pieces_for (length frame)) → HasPlayed (map command_of_event events) b c
     → HasPlayed (fed hosts sender frame) a c
 sent hosts sender frame events a b c first follows second =
     subst (λ (said : List Said). HasPlayed said a c) (ap (λ (s : List Said). Sends sender frame [] ∷ s) follows)
@@ -251,11 +251,12 @@ sent hosts sender frame events a b c first follows second =
 pub send_stops : (hosts : List Host) (sender : ℕ) (frame : List ℕ) (a b : Play) (error : BenchError)
     → StopsWithin (Sends sender frame [] ∷ []) a b error → StopsWithin (fed hosts sender frame) a b error
 send_stops hosts sender frame a b error stops =
-    stops_behind (fed hosts sender frame) [] (Sends sender frame [] ∷ []) (behind_send hosts sender (pieces_for (length frame))) a a b error
+    stops_behind (fed hosts sender frame) [] (Sends sender frame [] ∷ [])
+    (events_after_send hosts sender (pieces_for (length frame))) a a b error
     refl (played_none a) stops
 
 pub behind_stops : (hosts : List Host) (sender : ℕ) (frame : List ℕ) (events : List Event) (a b c : Play) (error : BenchError)
-    → HasPlayed (Sends sender frame [] ∷ []) a b → map command_of_event events ≡ behind_send hosts sender (pieces_for (length frame))
+    → HasPlayed (Sends sender frame [] ∷ []) a b → map command_of_event events ≡ events_after_send hosts sender (pieces_for (length frame))
     → StopsWithin (map command_of_event events) b c error
     → StopsWithin (fed hosts sender frame) a c error
 behind_stops hosts sender frame events a b c error first follows stops =

@@ -43,14 +43,14 @@ arrivals_from pieces number sender wire (host ∷ hosts) =
 
 -- The events after a send: the frame is put onto the sender's wire, and arrives at each other host on this wire, in
 -- order.
-abbrev pub behind_send : List Host → (sender pieces : ℕ) → List Said
-behind_send hosts sender pieces =
+abbrev pub events_after_send : List Host → (sender pieces : ℕ) → List Said
+events_after_send hosts sender pieces =
     Ticks (Step sender TxTake) ∷ Ticks (Step sender TxPut) ∷ arrivals_from pieces 0 sender (wire_name_of hosts sender) hosts
 
 -- the events by which a frame is fed: the sender sends the frame, its adapter puts it, and the other hosts on the wire
 -- receive it
 abbrev pub fed : List Host → (sender : ℕ) (frame : List ℕ) → List Said
-fed hosts sender frame = Sends sender frame [] ∷ behind_send hosts sender (pieces_for (length frame))
+fed hosts sender frame = Sends sender frame [] ∷ events_after_send hosts sender (pieces_for (length frame))
 
 -- the next `count` words of a PCG32 generator (XSH RR 64/32)
 abbrev pub words_from : (count : ℕ) → Lcg → List ℕ

@@ -17,7 +17,7 @@ use Rattle.scenario.specs.declared.command.Scenario.{Scenario}
 use Rattle.run_record.specs.Acts.{Act}
 use Rattle.scenario_bench.specs.PlayedActs.{ActsLead, act_of}
 use Rattle.scenario_bench.specs.Benches.{scenario_events}
-use Rattle.scenario_bench.specs.EventLists.{behind_send}
+use Rattle.scenario_bench.specs.EventLists.{events_after_send}
 use Rattle.scenario_bench.specs.Given.{sockets_from}
 use Rattle.run_record.specs.Kept.{KeptFrame, socket_texts}
 use Rattle.scenario_bench.specs.WireLists.{wire_names}
@@ -49,7 +49,8 @@ StopsAtPlan plans (errors.Run stopped) = ⊥
 StopsAtPlan plans errors.Memory = Unit {0}
 StopsAtPlan plans (errors.Write error) = ⊥
 
--- Only the first of these events and drains were done on the network and recorded.
+-- Only the first of these events and drains, perhaps none, were done on the network and recorded. At least one of them
+-- wasn't done (`left`).
 pub record HasPlayedFront (said : List Said) (old new : Play) : Type 0 where
   pub first : List Said
   pub left : List Said
@@ -57,8 +58,9 @@ pub record HasPlayedFront (said : List Said) (old new : Play) : Type 0 where
   pub some : 0 < length left
   pub played : HasPlayed first old new
 
--- Memory was refused among these events and drains. After the error `Run`, only the first of them were done. Then
--- `stopped.done` is the number of events and drains in the record.
+-- Memory was refused among these events and drains. After the error `Run`, only the first of them were done, perhaps
+-- none. Then `stopped.done` is the number of events and drains in the record. After `Memory`, nothing is stated about
+-- `new`.
 abbrev pub StopsWithin : List Said → (old new : Play) → BenchError → Type 0
 StopsWithin said old new (errors.Plan error) = ⊥
 StopsWithin said old new (errors.Run stopped) = HasPlayedFront said old new × (stopped.done ≡ new.record.number)
@@ -68,7 +70,8 @@ StopsWithin said old new (errors.Write error) = ⊥
 -- If the list of `behind` is made for a number of pieces, it contains the events after a send of this host for this
 -- number.
 abbrev pub AreOfSender : List Host → (sender : ℕ) → EventsAfterSend → Type 0
-AreOfSender hosts sender behind = IfSome behind.pieces (λ made. map command_of_event behind.list.items ≡ behind_send hosts sender made)
+AreOfSender hosts sender behind =
+    IfSome behind.pieces (λ made. map command_of_event behind.list.items ≡ events_after_send hosts sender made)
 
 -- the frames of a trace
 abbrev pub trace_frames : Trace → List (List ℕ)

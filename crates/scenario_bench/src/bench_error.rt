@@ -9,12 +9,14 @@ use std::alloc::AllocError;
 /// Why playing a scenario stopped.
 #[derive(Clone, Copy)]
 pub enum BenchError {
-    /// The scenario's plan was refused. Nothing was written.
+    /// No network could be made of the scenario's plan, for this reason. Nothing was written.
     Plan(PlanError),
-    /// Memory was refused before an event. Nothing was written. `done` is the number of events and drains that were
-    /// done before this event; it saturates at the greatest `u64`.
+    /// Before an event, memory was refused for what is recorded of the event, or for the frames that a reset drops.
+    /// Nothing was written. `done` is the number of events and drains that were done before this event; it saturates at
+    /// the greatest `u64`.
     Run(Stopped),
-    /// Memory was refused at another place. Nothing was written.
+    /// Memory was refused for anything else, such as the events of a `feed`, the frames of a drain, or the writer of
+    /// the traces. Nothing was written.
     Memory,
     /// A sink failed. The sinks before this sink have their whole traces. This sink has a beginning of its own trace,
     /// and the sinks after it are unchanged. Sinks of wires come after those of sockets.

@@ -37,8 +37,8 @@ fn step_event(host: usize, kind: StepKind) -> Event<'static>
     Event::Tick(Tick::Step(host, kind))
 }
 
-/// Returns the number of receive buffers that a frame of this size needs after padding. Returns 1 if the frame is too
-/// short or too long for `send` (E20, E21).
+/// Returns the number of receive buffers that a frame of this size needs after padding. If the frame is too short or
+/// too long for `send` (E20, E21), no such frame arrives, and the result is 1 (our choice).
 pub(crate) fn pieces_of(size: usize) -> usize
     ensures { result ≡ lists.pieces_for size }
 {
@@ -92,8 +92,8 @@ fn push_arrival(
     Ok(())
 }
 
-/// Appends the events by which a sender's frame arrives at each other host on the sender's wire, in order. If memory is
-/// refused, some of the events may have been appended.
+/// Appends the events by which a sender's frame arrives, in this number of pieces, at each other host on the sender's
+/// wire, in order. If memory is refused, some of the events may have been appended.
 fn push_arrivals(
     plans: &[HostPlan],
     pieces: usize,
@@ -115,14 +115,14 @@ fn push_arrivals(
 /// Replaces the events by those after the send of a fed frame. The frame is put on the sender's wire, and arrives at
 /// each other host on this wire in this number of pieces. If memory is refused, the list may contain some of the
 /// events.
-fn set_behind_send(
+fn set_events_after_send(
     plans: &[HostPlan],
     sender: usize,
     pieces: usize,
     events: &mut Vec<Event<'_>>,
 ) -> Result<(), AllocError>
     ensures { OnOk result
-        (map command_of_event events.new.items ≡ lists.behind_send (hosts_of plans.now) sender pieces) }
+        (map command_of_event events.new.items ≡ lists.events_after_send (hosts_of plans.now) sender pieces) }
 {
     events.clear();
     push_event(events, step_event(sender, StepKind::TxTake))?;
@@ -140,7 +140,7 @@ pub(crate) struct EventsAfterSend {
 }
 
 impl EventsAfterSend {
-    /// Returns a list without events.
+    /// Returns the value before the first list is made.
     pub(crate) fn new(alloc: Global) -> EventsAfterSend
         ensures { result.pieces ≡ None }
     {
@@ -150,8 +150,9 @@ impl EventsAfterSend {
         }
     }
 
-    /// Makes the events after the send of a frame that arrives in this number of pieces. If a list is made, it must be
-    /// for these plans and this sender. If memory is refused, no list is made.
+    /// Makes the list of the events after the send of a frame that arrives in this number of pieces, unless `list` is
+    /// this list already. An earlier list must have been made for these plans and this sender. If memory is refused,
+    /// `list` counts as not made.
     pub(crate) fn make(
         &mut self,
         plans: &[HostPlan],
@@ -160,7 +161,7 @@ impl EventsAfterSend {
     ) -> Result<(), AllocError>
         requires before { AreOfSender (hosts_of plans.now) sender self.old }
         ensures events { OnOk result
-            (map command_of_event self.new.list.items ≡ lists.behind_send (hosts_of plans.now) sender pieces) }
+            (map command_of_event self.new.list.items ≡ lists.events_after_send (hosts_of plans.now) sender pieces) }
         ensures kept { AreOfSender (hosts_of plans.now) sender self.new }
     {
         if let Some(made) = self.pieces
@@ -168,8 +169,9 @@ impl EventsAfterSend {
         {
             return Ok(());
         }
+        // If memory is refused in the next call, `list` is incomplete.
         self.pieces = None;
-        set_behind_send(plans, sender, pieces, &mut self.list)?;
+        set_events_after_send(plans, sender, pieces, &mut self.list)?;
         self.pieces = Some(pieces);
         Ok(())
     }
@@ -189,7 +191,9 @@ fn broadcast_of(image: &Image) -> [u8; HEADER]
 /// interrupt are lent to the event.
 #[derive(Drop)]
 pub(crate) struct Drawn {
+    /// The kind of the event, from 0 to 7, as in `event`.
     kind: u32,
+    /// The number of the host.
     host: usize,
     /// The frame of a send.
     frame: [u8; HEADER],
@@ -200,7 +204,7 @@ pub(crate) struct Drawn {
 
 impl Drawn {
     /// Returns what a random word draws. The word's low three bits choose the kind. The other bits, modulo the number
-    /// of hosts, choose the host. There must be at least one host.
+    /// of hosts, choose the host. There must be at least one host. The frame and the ticks are made for each kind.
     pub(crate) fn new(plans: &[HostPlan], word: u32) -> Drawn
         requires { 0 < length plans.now }
         ensures { lists.event_of_kind result.kind result.host result.frame result.ticks
@@ -219,7 +223,7 @@ impl Drawn {
         }
     }
 
-    /// Returns the event. Each kind from 7 on is a send (`new` draws kinds from 0 to 7).
+    /// Returns the event that was drawn. Each kind from 7 on is a send (`new` draws kinds from 0 to 7).
     pub(crate) fn event(&self) -> Event<'_>
         ensures { command_of_event result
             ≡ lists.event_of_kind self.now.kind self.now.host self.now.frame self.now.ticks }

@@ -35,7 +35,7 @@ fn push_socket_files(
 }
 
 /// Returns the name of the file of each socket, `HOST.SOCKET.pcap`: the sockets of the first host in order, then those
-/// of the next host.
+/// of the next host. The contract states only the number of names.
 ///
 /// # Errors
 ///
@@ -70,7 +70,8 @@ fn files_of_wires(alloc: Global, wires: &[&str]) -> Result<Vec<String>, AllocErr
 }
 
 /// Returns the name of the file of each wire, `WIRE.pcap`, in the order in which the hosts first name the wires. In a
-/// valid plan, no socket's file has such a name: a wire's name has no dot, and the name of a socket's file has two.
+/// valid plan, no socket's file has such a name: a wire's name has no dot, and the name of a socket's file has two. The
+/// contract states only the number of names.
 ///
 /// # Errors
 ///

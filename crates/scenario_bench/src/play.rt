@@ -75,8 +75,13 @@ fn asked_after(asked: Refusals, command: &Command, before: Refusals, after: Refu
 
 impl Play {
     /// Initializes the hosts of a plan, with an empty record. If `wires`, the number of traces of wires to write, isn't
-    /// 0, the frames that adapters put are recorded later. If `events` is true, a line is recorded for each event and
-    /// drain. Fails with `Plan` if the plan is refused, and with `Memory` if memory is refused at another place.
+    /// 0, the frames that adapters put are recorded during the run. If `events` is true, a line is recorded for each
+    /// event and drain.
+    ///
+    /// # Errors
+    ///
+    /// [`Plan`](BenchError::Plan) if no network can be made of the plan, also if memory is refused for the network.
+    /// [`Memory`](BenchError::Memory) if memory is refused for the record.
     fn new(alloc: Global, plan: &Plan, wires: usize, events: bool) -> Result<Play, BenchError>
         ensures ok { IfOk result (HasBegunPlay plan.now.hosts.items) }
         ensures puts { IfOk result (λ play. IsNewRecord wires play.record.puts) }
@@ -95,20 +100,21 @@ impl Play {
     }
 
     /// Runs these events, and records their outcomes and answers. If memory is refused before an event, the error is
-    /// `Run` with the number of events and drains done before this event. If memory is refused for the record, the
-    /// error is `Memory`.
+    /// `Run` with the number of events and drains done before this event. If memory is refused for the record during an
+    /// event, the error is `Memory`.
     #[inline(always)]
     fn run(&mut self, events: &[Event<'_>]) -> Result<(), BenchError>
         ensures ok { OnOk result (HasPlayed (map command_of_event events.now) self.old self.new) }
         ensures err { IfErr result (StopsWithin (map command_of_event events.now) self.old self.new) }
     {
         let ran = self.lan.play(events, &mut self.record);
+        // Memory was refused during an event, so the record is incomplete.
         if self.record.failed {
             return Err(BenchError::Memory);
         }
         match ran {
             Ok(()) => Ok(()),
-            // `_stopped` counts only these events; `done` also counts the events and drains before them.
+            // `_stopped` counts only events of this call; `done` also counts the events and drains before this call.
             Err(_stopped) => {
                 let done = self.record.number as usize;
                 Err(BenchError::Run(Stopped { done }))
@@ -117,7 +123,8 @@ impl Play {
     }
 
     /// Makes room for the frames of a drain, drains a host, and records the frames that the host returned. The number
-    /// of steps of the drain is dropped. If memory is refused before or after the drain, the error is `Memory`.
+    /// of steps, which `Lan::drain` returns, isn't used. If memory is refused before or after the drain, the error is
+    /// `Memory`.
     #[tactic(auto, using(crate::proofs::PlayedEvents::drained))]
     fn drain(&mut self, host: usize) -> Result<(), BenchError>
         ensures ok { OnOk result (HasPlayed (Drains host ∷ []) self.old self.new) }
@@ -129,7 +136,7 @@ impl Play {
         Ok(())
     }
 
-    /// Runs an event, and records its outcomes and answer.
+    /// Runs an event, and records its outcomes and answer. The errors are those of `run`.
     #[inline(always)]
     fn run_one(&mut self, event: Event<'_>) -> Result<(), BenchError>
         ensures ok { OnOk result (HasPlayed (command_of_event event.entry ∷ []) self.old self.new) }
@@ -234,9 +241,9 @@ impl Play {
         }
     }
 
-    /// Runs the events and drains of these commands, in order. `lines` contains the line number of each command, for
-    /// the lines that are recorded of its events and drains. A command for which `lines` is too short has the line
-    /// number 0. There must be at least one host.
+    /// Runs the events and drains of these commands, in order. Updates `asked` after each command. `lines` contains,
+    /// for each command, the number of its line in the scenario. The record stores this number with the events and
+    /// drains of the command. For a command after the end of `lines`, the number is 0. There must be at least one host.
     #[tactic(auto, using(crate::proofs::PlayedEvents::none_fed, crate::proofs::PlayedEvents::all_ran))]
     fn commands(
         &mut self,
@@ -254,6 +261,7 @@ impl Play {
     {
         let mut left = commands;
         while let Some((command, later)) = left.split_first() {
+            // The index of this command.
             let place = commands.len().saturating_sub(left.len());
             self.record.line = lines.get(place).copied().unwrap_or(0);
             let before = self.record.log.refusals;
@@ -265,7 +273,7 @@ impl Play {
     }
 
     /// Returns the summary of host `number`, whose plan is `plan`. The record must contain its counts, and the network
-    /// must contain the host.
+    /// must contain the host. Fails only if memory is refused.
     fn host_summary(
         &self,
         alloc: Global,
@@ -274,6 +282,7 @@ impl Play {
     ) -> Result<HostSummary, AllocError>
         requires tally { number < length self.now.record.hosts.items }
         requires there { number < length self.now.lan.hosts }
+        // `tally` are the host's counts in the record, and `host` is its state in the network.
         ensures { IfOk result (λ told. (tally : Tally) (host : HostState)
             → slice_get self.now.record.hosts.items number ≡ Some tally → IsHost self.now.lan number host
             → TellsTally plan.now tally host (world_at self.now.lan.stations number) told) }
@@ -295,7 +304,7 @@ impl Play {
     }
 
     /// Returns the summaries of all hosts of a plan, in order. The record must contain their counts, and the network
-    /// must contain the hosts.
+    /// must contain the hosts. Fails only if memory is refused.
     #[tactic(auto, using(crate::proofs::Benching::none_told))]
     fn host_summaries(
         &self,
@@ -330,7 +339,7 @@ impl Play {
     }
 
     /// Plays the commands of a scenario in order, and returns the summaries of the hosts. The network must be that of
-    /// the plan, and nothing must be recorded yet.
+    /// the plan, and nothing must be recorded yet. If memory is refused, the error is `Run` or `Memory`.
     fn scenario(
         &mut self,
         alloc: Global,
@@ -350,9 +359,10 @@ impl Play {
         Ok(hosts)
     }
 
-    /// Writes the traces of sockets, and then the traces of wires, through a writer. There must be one sink for each
+    /// Writes the traces of sockets, and then the traces of wires, each to its sink. `of_sockets` and `of_wires` choose
+    /// the frames of each trace. The bytes of all traces wait in the block of `writer`. There must be one sink for each
     /// socket, and at most one for each wire. If there is a sink for a wire, the frames that adapters put must be
-    /// recorded.
+    /// recorded (`recorded`). Each sink's count of failures must be below the greatest `u64`. Fails if a sink fails.
     fn write_through<W: Sink>(
         &self,
         of_sockets: &Traces<'_>,
@@ -379,12 +389,14 @@ impl Play {
         self.record.returned.write(of_sockets, writer, unit, sinks)?;
         match &self.record.puts {
             Some(puts) => puts.write(of_wires, writer, unit, wire_sinks),
+            // There is no sink for a wire (`recorded`).
             None => Ok(()),
         }
     }
 
     /// Writes to each sink the frames of its socket, and then to each of `wire_sinks` the frames that were put on its
-    /// wire. The preconditions are those of `write_through`. If memory is refused, nothing was written.
+    /// wire. The preconditions are those of `write_through`, for the sockets and wires of this plan. If memory is
+    /// refused, nothing was written.
     fn write<W: Sink>(
         &self,
         alloc: Global,
@@ -418,7 +430,8 @@ impl Play {
     }
 
     /// Plays the commands of a scenario on the network of its plan, and then writes the traces. Returns the summary.
-    /// `new` must have made `self` for this plan and this number of `wire_sinks`, and nothing must be recorded yet.
+    /// `new` must have made `self` for this plan and this number of `wire_sinks`, and nothing must be recorded yet. The
+    /// sinks must be as for `write`. In clause `ok`, `events` is the argument with which `new` was called.
     fn bench<W: Sink>(
         &mut self,
         alloc: Global,
@@ -456,16 +469,19 @@ impl Play {
 ///
 /// Pass a trace for each name of [`Scenario::trace_names`], and a sink for each socket, hosts in order and the sockets
 /// of each host in order. Pass in `wire_sinks` a sink for each wire of [`wires`](crate::wires), in order, or for only
-/// the first wires, or no sinks. If `events` is true, the summary has a line for each event and drain.
+/// the first wires, or no sinks. Each sink's count of failures must be below the greatest `u64`. If `events` is true,
+/// the summary has a line for each event and drain.
 ///
 /// # Errors
 ///
 /// After each of these errors except `Write`, nothing was written.
 ///
-/// - [`Plan`](BenchError::Plan) if the plan is refused (E40 to E46).
-/// - [`Run`](BenchError::Run) (E47) if memory is refused before an event. The error's field `done` is the number of
-///   events and drains that were done before this event; it saturates at the greatest `u64`.
-/// - [`Memory`](BenchError::Memory) (E57) if memory is refused at another place.
+/// - [`Plan`](BenchError::Plan) if no network can be made of the plan (E40 to E46), also if memory is refused for the
+///   network (E45).
+/// - [`Run`](BenchError::Run) (E47) if, before an event, memory is refused for what is recorded of the event, or for
+///   the frames that a reset drops. The error's field `done` is the number of events and drains that were done before
+///   this event; it saturates at the greatest `u64`.
+/// - [`Memory`](BenchError::Memory) (E57) if memory is refused for anything else.
 /// - [`Write`](BenchError::Write) (E67) if a sink failed. The sinks before this sink have their whole traces. This sink
 ///   has a beginning of its own trace, and the sinks after it are unchanged. The sinks of sockets are written before
 ///   those of wires.

@@ -61,7 +61,7 @@ fn fields_of(host: &HostSummary) -> Line
     line
 }
 
-/// Writes the line of a host.
+/// Writes the line of a host. If the sink fails, it has taken a beginning of the line.
 fn print_host<W: Sink>(host: &HostSummary, sink: &mut W) -> Result<(), WriteError>
     requires { W.failures sink.old < u64.MAX }
     ensures ok { OnOk result (Appends (W.taken sink.old) (W.taken sink.new) (host_line host.now)) }

@@ -27,8 +27,11 @@ pub const REMOVED: u32 = 1;
 /// The number of [`Step::Ended`].
 pub const ENDED: u32 = 2;
 
-/// Begins a search of the schedules whose deviations cost at most `depth` in total, and `cost` each. Clears the table
-/// of known states. The path is then empty, whatever `path` contains.
+/// Begins a search of the schedules whose deviations cost at most `depth` in total. Each deviation costs `cost`. Clears
+/// the table of known states.
+///
+/// The path of the new search is empty: the first 0 choices of `path`. The call neither reads nor changes `path`, which
+/// only clause `search` uses.
 #[unsafe(no_mangle)]
 pub extern "C" fn schedule_search_begin(
     search: &mut Search,
@@ -43,9 +46,11 @@ pub extern "C" fn schedule_search_begin(
     *search = crate::begin(depth, cost, known);
 }
 
-/// Meets the place that the run of the path reached. If the path is full, returns [`FULL`]. Else, if the state of the
-/// place is known, returns [`PASSES`]. In both cases, nothing changes. Otherwise appends the first choice at this place
-/// to the path, and returns [`GOES`].
+/// Decides what a run does at `place`, which it reached after all choices of the path.
+///
+/// If the path has no room for another choice, returns [`FULL`]. Else, if the state of the place is known, returns
+/// [`PASSES`]: the caller needn't play the schedules that begin with the path. In both cases, nothing changes.
+/// Otherwise appends the first choice at this place to the path, and returns [`GOES`]: the run takes this choice.
 #[unsafe(no_mangle)]
 pub extern "C" fn schedule_search_meet(
     search: &mut Search,
@@ -53,11 +58,14 @@ pub extern "C" fn schedule_search_meet(
     known: &[Known],
     place: &Place,
 ) -> u32
+    // The next two clauses assume that no schedule of the test has failed (`IsSearch`), and the run reached `place`.
     ensures search { (test : Test) → IsSearch test search.old path.old known.now
         → test.at (run_in search.old path.old) ≡ Some place.now → IsSearch test search.new path.new known.now }
     ensures passes { (test : Test) → IsSearch test search.old path.old known.now
         → test.at (run_in search.old path.old) ≡ Some place.now → result ≡ PASSES
         → ContinuationsPass test search.new path.new }
+
+    // The other clauses hold for every call: what each result means for the path and for the table.
     ensures goes { result ≡ GOES → path_of search.new.count path.new
         ≡ first_choice search.old.cost (left_of search.old.cost search.old.depth (path_of search.old.count path.old))
         place.now
@@ -77,14 +85,21 @@ pub extern "C" fn schedule_search_meet(
     }
 }
 
-/// Makes a step back, after all schedules that begin with the path were tried. Returns [`ANOTHER`], [`REMOVED`] or
-/// [`ENDED`].
+/// Makes a step back, after all schedules that begin with the path were tried.
+///
+/// If the newest choice has a next number, it takes this number. Returns [`ANOTHER`]: the next run takes the changed
+/// choice. Otherwise, this choice is removed, and the state of its place is noted as known, unless a schedule from this
+/// place has failed. Returns [`REMOVED`]: the caller calls again, for the shorter path.
+///
+/// If the path is empty, nothing changes. Returns [`ENDED`]: all schedules were tried.
 #[unsafe(no_mangle)]
 pub extern "C" fn schedule_search_back(
     search: &mut Search,
     path: &mut [Choice],
     known: &mut [Known],
 ) -> u32
+    // The next three clauses assume that no schedule has failed (`IsSearch`), and all that begin with the path pass
+    // (`ContinuationsPass`). The first two also assume that places with equal keys are equal states (`EqualKeys`).
     ensures search { (test : Test) → IsSearch test search.old path.old known.old → EqualKeys test
         → ContinuationsPass test search.old path.old → IsSearch test search.new path.new known.new }
     ensures removed { (test : Test) → IsSearch test search.old path.old known.old → EqualKeys test
@@ -92,6 +107,9 @@ pub extern "C" fn schedule_search_back(
     ensures ended { (test : Test) → IsSearch test search.old path.old known.old
         → ContinuationsPass test search.old path.old → result ≡ ENDED
         → AllPass test search.old.cost search.old.depth [] }
+
+    // The next four clauses state the order of the paths, if the path is in the slice. `next_path` is the path to try
+    // next, if there is one.
     ensures another { search.old.count ≤ length path.old → result ≡ ANOTHER
         → next_path (path_of search.old.count path.old) ≡ Some (path_of search.new.count path.new) }
     ensures fewer { search.old.count ≤ length path.old → result ≡ REMOVED
@@ -100,6 +118,9 @@ pub extern "C" fn schedule_search_back(
         → next_path (path_of search.old.count path.old) ≡ None }
     ensures shorter { search.old.count ≤ length path.old → result ≡ REMOVED
         → (choice : Choice) × (path_of search.old.count path.old ≡ choice ∷ path_of search.new.count path.new) }
+
+    // If a schedule from the place of the newest choice has failed, no state is noted. The same then holds for the
+    // newest choice of the shorter path.
     ensures failing { 0 < search.old.count → search.old.count ≤ search.old.failing → result ≡ REMOVED
         → (known.new ≡ known.old) × (search.new.failing ≡ search.new.count) }
     ensures answers { result ≤ 2 }
@@ -112,8 +133,8 @@ pub extern "C" fn schedule_search_back(
     }
 }
 
-/// Notes that the run of the path has failed. So a schedule from the place of each choice of the path has failed, and
-/// `schedule_search_back` doesn't note the states of these places as known.
+/// Notes that the run of the path has ended and failed. So a schedule from the place of each choice of the path has
+/// failed, and `schedule_search_back` doesn't note the states of these places as known.
 #[unsafe(no_mangle)]
 pub extern "C" fn schedule_search_fail(search: &mut Search)
     ensures { search.new ≡ record search.old { failing = search.old.count } }
@@ -121,11 +142,15 @@ pub extern "C" fn schedule_search_fail(search: &mut Search)
     crate::fail(search);
 }
 
-/// Returns the index of the first entry that has this key or is empty. The search begins at entry `key.one` modulo the
+/// Returns the index of the first entry that has this key or is empty. The look-up begins at entry `key.one` modulo the
 /// number of entries, and wraps. If there is no such entry, returns the number of entries.
+///
+/// The contract doesn't state that the entry is the first one.
 #[unsafe(no_mangle)]
 pub extern "C" fn schedule_search_find(known: &[Known], key: &Key) -> usize
     ensures within { result ≤ length known.now }
+
+    // `slice_index_or` is the entry at the index of the result. Outside of the table, it would be `none`.
     ensures found { (none : Known) → result < length known.now
         → ((slice_index_or known.now result none).key.one ≡ 0)
         ⊎ ((slice_index_or known.now result none).key ≡ key.now) }
@@ -133,8 +158,10 @@ pub extern "C" fn schedule_search_find(known: &[Known], key: &Key) -> usize
     crate::find(known, *key)
 }
 
-/// Notes the entries of the table `from` in the table `known`, as far as there is room. Skips empty entries. If both
-/// tables contain only true entries, so does the new table.
+/// Notes the entries of the table `from` in the table `known`, as far as there is room. Skips empty entries. So a
+/// caller can continue with a larger table.
+///
+/// The contract states only this: if both tables contain only true entries, so does `known` after the call.
 #[unsafe(no_mangle)]
 pub extern "C" fn schedule_search_grow(from: &[Known], known: &mut [Known])
     ensures { (test : Test) (cost : ℕ) → AreTrueEntries test cost from.now → AreTrueEntries test cost known.old

@@ -21,18 +21,25 @@ pub use known::{find, grow};
 pub use path::{Choice, Key, Known, Place};
 pub use search::{Met, Search, Step, back, begin, fail, meet};
 
-/// The first run, and then the run of each next path until there is none, are the list of the schedules, in order.
+/// Law of the order in which a search tries the schedules of a test, if no state is known. It holds for each bound on
+/// the number of places, after which runs are cut.
+///
+/// The first run takes the first choice at each place. After each run, the next path takes the next number at the
+/// newest place that has one. The next run takes this path, and then the first choice at each later place. These runs,
+/// until there is no next path, are exactly the list `schedules`, in order.
 pub fn all_are_tried()
     ensures { AllAreTried }
 {}
 
-/// The list of schedules contains each schedule with at most a given number of places, otherwise only beginnings of
-/// longer runs, and no run twice.
+/// Law of the list `schedules`, for each test and each bound `room` on the number of places. The list contains each
+/// schedule with at most `room` places. Its other members are longer runs, each cut after `room` places. It contains no
+/// run twice.
 pub fn lists_all()
     ensures { ListsAll }
 {}
 
-/// If a run has ended and passes, all schedules that begin with this run pass.
+/// Law of ended runs. If a run has ended and passes, all schedules that begin with this run pass: the run itself is the
+/// only one.
 pub fn runs_pass()
     ensures { RunsPass }
 {}

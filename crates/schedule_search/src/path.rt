@@ -22,7 +22,7 @@ pub struct Place {
     pub possible: u32,
 }
 
-/// A choice: the number that a run takes at a place.
+/// A choice: the number that a run takes at a place. In a slice with a path, the oldest choice is first.
 #[repr(C)]
 #[derive(Clone, Copy)]
 pub struct Choice {
@@ -42,8 +42,8 @@ pub struct Known {
     pub left: u32,
 }
 
-/// Returns the maximum total cost of the deviations after a choice: `choice.left`, minus `cost` if the choice is a
-/// deviation, but not below 0.
+/// Returns the maximum total cost of the deviations after a choice: `choice.left` if the choice is no deviation. After
+/// a deviation, this is `choice.left` minus `cost`, or 0 if `cost` is greater.
 pub(crate) fn after(cost: u32, choice: Choice) -> u32
     ensures { result ≡ left_after cost choice.left choice.place.possible choice.taken }
 {
@@ -56,8 +56,8 @@ pub(crate) fn after(cost: u32, choice: Choice) -> u32
     choice.left - cost
 }
 
-/// Returns the maximum total cost of the deviations after the first `count` choices of a path. The path must have at
-/// least `count` choices.
+/// Returns the maximum total cost of the deviations after the first `count` choices of a path: before the first choice,
+/// `depth`. The path must have at least `count` choices.
 pub(crate) fn left(depth: u32, cost: u32, path: &[Choice], count: usize) -> u32
     requires { count ≤ length path.now }
     ensures { result ≡ left_of cost depth (path_of count path.now) }
@@ -68,7 +68,8 @@ pub(crate) fn left(depth: u32, cost: u32, path: &[Choice], count: usize) -> u32
     after(cost, path[count - 1])
 }
 
-/// Returns the first choice at a place: number 0 if a deviation costs at most `left`, or else no deviation.
+/// Returns the first choice at a place. If a deviation costs at most `left`, the choice is number 0: the first
+/// deviation, or no deviation if none is possible. Otherwise the choice is no deviation.
 pub(crate) fn first(cost: u32, left: u32, place: Place) -> Choice
     ensures { result ≡ first_choice cost left place }
 {
@@ -79,7 +80,8 @@ pub(crate) fn first(cost: u32, left: u32, place: Place) -> Choice
     }
 }
 
-/// Returns the choice of the next number at the same place. The argument must be the choice of a deviation.
+/// Returns the choice of the next number at the same place: another deviation, or no deviation. The argument must be
+/// the choice of a deviation, because no number follows that of no deviation.
 pub(crate) fn next(choice: Choice) -> Choice
     requires { choice.taken < choice.place.possible }
     ensures { result ≡ next_choice choice }

@@ -24,7 +24,7 @@ pub struct Search {
     pub failing: usize,
 }
 
-/// What the caller does at a place.
+/// What the caller does at a place that a run reached.
 pub enum Met {
     /// The path has one more choice, the first one at this place, and the run takes this choice.
     Goes,
@@ -45,9 +45,10 @@ pub enum Step {
     Ended,
 }
 
-/// Begins a search of the schedules whose deviations cost at most `depth` in total, and `cost` each. Clears the table
-/// of known states. The path of the new search is empty.
+/// Begins a search of the schedules whose deviations cost at most `depth` in total. Each deviation costs `cost`. Clears
+/// the table of known states. The path of the new search is empty.
 pub fn begin(depth: u32, cost: u32, known: &mut [Known]) -> Search
+    // For each slice in which the caller then keeps the path: the search meets its invariant (`IsSearch`).
     ensures search { (test : Test) (path : List Choice) → IsSearch test result path known.new }
     ensures begins { result ≡ record { depth = depth; cost = cost; count = 0; failing = 0 } }
 {
@@ -65,15 +66,20 @@ pub fn begin(depth: u32, cost: u32, known: &mut [Known]) -> Search
     }
 }
 
-/// Meets the place that the run of the path reached. If the path is full, returns [`Full`](Met::Full). Else, if the
-/// state of the place is known, returns [`Passes`](Met::Passes). In both cases, nothing changes. Otherwise appends the
-/// first choice at this place to the path, and returns [`Goes`](Met::Goes).
+/// Decides what a run does at `place`, which it reached after all choices of the path.
+///
+/// If the path has no room for another choice, returns [`Full`](Met::Full). Else, if the state of the place is known,
+/// returns [`Passes`](Met::Passes). In both cases, nothing changes. Otherwise appends the first choice at this place to
+/// the path, and returns [`Goes`](Met::Goes).
 pub fn meet(search: &mut Search, path: &mut [Choice], known: &[Known], place: Place) -> Met
+    // The next two clauses assume that no schedule of the test has failed (`IsSearch`), and the run reached `place`.
     ensures search { (test : Test) → IsSearch test search.old path.old known.now
         → test.at (run_in search.old path.old) ≡ Some place → IsSearch test search.new path.new known.now }
     ensures passes { (test : Test) → IsSearch test search.old path.old known.now
         → test.at (run_in search.old path.old) ≡ Some place → result ≡ Met.Passes
         → ContinuationsPass test search.new path.new }
+
+    // The other clauses hold for every call: what each result means for the path and for the table.
     ensures goes { result ≡ Met.Goes → path_of search.new.count path.new
         ≡ first_choice search.old.cost (left_of search.old.cost search.old.depth (path_of search.old.count path.old))
         place
@@ -100,9 +106,14 @@ pub fn meet(search: &mut Search, path: &mut [Choice], known: &[Known], place: Pl
 
 /// Makes a step back, after all schedules that begin with the path were tried. Returns what the caller does next.
 ///
-/// The newest choice takes its next number, if there is one. Otherwise, this choice is removed, and the state of its
-/// place is noted as known, unless a schedule from this place has failed.
+/// If the newest choice has a next number, it takes this number, and the result is [`Another`](Step::Another).
+/// Otherwise, this choice is removed, and the result is [`Removed`](Step::Removed). The state of its place is then
+/// noted as known, unless a schedule from this place has failed.
+///
+/// If the path is empty, nothing changes, and the result is [`Ended`](Step::Ended).
 pub fn back(search: &mut Search, path: &mut [Choice], known: &mut [Known]) -> Step
+    // The next three clauses assume that no schedule has failed (`IsSearch`), and all that begin with the path pass
+    // (`ContinuationsPass`). The first two also assume that places with equal keys are equal states (`EqualKeys`).
     ensures search { (test : Test) → IsSearch test search.old path.old known.old → EqualKeys test
         → ContinuationsPass test search.old path.old → IsSearch test search.new path.new known.new }
     ensures removed { (test : Test) → IsSearch test search.old path.old known.old → EqualKeys test
@@ -111,6 +122,9 @@ pub fn back(search: &mut Search, path: &mut [Choice], known: &mut [Known]) -> St
     ensures ended { (test : Test) → IsSearch test search.old path.old known.old
         → ContinuationsPass test search.old path.old → result ≡ Step.Ended
         → AllPass test search.old.cost search.old.depth [] }
+
+    // The next four clauses state the order of the paths, if the path is in the slice. `next_path` is the path to try
+    // next, if there is one.
     ensures another { search.old.count ≤ length path.old → result ≡ Step.Another
         → next_path (path_of search.old.count path.old) ≡ Some (path_of search.new.count path.new) }
     ensures fewer { search.old.count ≤ length path.old → result ≡ Step.Removed
@@ -119,11 +133,14 @@ pub fn back(search: &mut Search, path: &mut [Choice], known: &mut [Known]) -> St
         → next_path (path_of search.old.count path.old) ≡ None }
     ensures shorter { search.old.count ≤ length path.old → result ≡ Step.Removed
         → (choice : Choice) × (path_of search.old.count path.old ≡ choice ∷ path_of search.new.count path.new) }
+
+    // If a schedule from the place of the newest choice has failed, no state is noted. The same then holds for the
+    // newest choice of the shorter path.
     ensures failing { 0 < search.old.count → search.old.count ≤ search.old.failing → result ≡ Step.Removed
         → (known.new ≡ known.old) × (search.new.failing ≡ search.new.count) }
     ensures kept { (search.new.depth ≡ search.old.depth) × (search.new.cost ≡ search.old.cost) }
 {
-    // The second condition is true only if the path isn't the one that `meet` extended.
+    // The second condition is true only if the caller passes a shorter slice than the one that `meet` extended.
     if search.count == 0 || search.count > path.len() {
         return Step::Ended;
     }
@@ -142,8 +159,8 @@ pub fn back(search: &mut Search, path: &mut [Choice], known: &mut [Known]) -> St
     Step::Removed
 }
 
-/// Notes that the run of the path has failed. So a schedule from the place of each choice of the path has failed, and
-/// [`back`] doesn't note the states of these places as known.
+/// Notes that the run of the path has ended and failed. So a schedule from the place of each choice of the path has
+/// failed, and [`back`] doesn't note the states of these places as known.
 pub fn fail(search: &mut Search)
     ensures { search.new ≡ record search.old { failing = search.old.count } }
 {

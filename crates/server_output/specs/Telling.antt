@@ -5,7 +5,7 @@ use Rattle.std.specs.Io.KnownBytes.{Appends, Keeps}
 use Rattle.std.specs.Option.{option_map}
 use Rattle.adapter.specs.Outcomes.{FrameOutcome, put_by, with_frame}
 use Rattle.access_names.specs.declared.engine_fault.EngineFault.{EngineFault}
-use Rattle.played_adapter.specs.Told.{Accessed, Arrived, Line, Noted, Offered, Stepped, Told}
+use Rattle.played_adapter.specs.Told.{Accessed, Arrived, Line, Noted, OfferedArrived, Stepped, Told}
 use Rattle.server_output.specs.Order.{Says, WritesPart}
 use Rattle.server_output.specs.Texts.{Text, arrive_said, arrived_line, fault_line, frame_line, line_told, said_log, step_said}
 use Rattle.server_output.specs.declared.answer_error.AnswerError.{AnswerError}
@@ -31,7 +31,7 @@ kept_with outcome fault kept = record kept {
 abbrev pub kept_one : Told → Kept → Kept
 kept_one (Stepped kind outcome fault) kept = kept_with outcome fault kept
 kept_one (Arrived frame fate) kept = kept
-kept_one (Offered frame fate) kept = kept
+kept_one (OfferedArrived frame fate) kept = kept
 kept_one (Accessed access) kept = kept
 kept_one (Line level) kept = kept
 kept_one (Noted action) kept = record kept { recorder = option_map (after_playing action) kept.recorder }
@@ -53,7 +53,7 @@ abbrev pub told_text : (log events : Bool) → (said : Text) → Told → Text
 told_text log events said (Stepped kind outcome fault) =
     said_log log (step_said kind (with_frame tt outcome)) ++ step_shown events outcome fault
 told_text log events said (Arrived frame fate) = said_log log said
-told_text log events said (Offered frame fate) = said_log log (arrive_said frame) ++ (if events then arrived_line fate frame else [])
+told_text log events said (OfferedArrived frame fate) = said_log log (arrive_said frame) ++ (if events then arrived_line fate frame else [])
 told_text log events said (Accessed access) = said_log log said
 told_text log events said (Line level) = line_told (Some level)
 told_text log events said (Noted action) = []

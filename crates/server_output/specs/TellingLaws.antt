@@ -3,7 +3,7 @@ use Rattle.std.proofs.Common.{◌≡◌, ◌++◌, ◌∙◌, ℕ, Bool, List, [
 use Rattle.std.proofs.lemmas.Grind.{flat_map-append}
 use Rattle.std.specs.List.{flat_map}
 use Rattle.std.specs.Io.KnownBytes.{Keeps}
-use Rattle.played_adapter.specs.Told.{Accessed, Arrived, Line, Noted, Offered, Stepped, Told}
+use Rattle.played_adapter.specs.Told.{Accessed, Arrived, Line, Noted, OfferedArrived, Stepped, Told}
 use Rattle.server_output.specs.Order.{WritesPart}
 use Rattle.server_output.specs.Telling.{Heard, WroteText, kept_after, kept_one, text_of, told_text}
 use Rattle.server_output.specs.Texts.{Text}
@@ -56,7 +56,7 @@ same_settings : (told : List Told) (kept : Kept) → ((kept_after told kept).log
 same_settings [] kept = (refl, refl)
 same_settings (Stepped kind outcome fault ∷ later) kept = same_settings later (kept_one (Stepped kind outcome fault) kept)
 same_settings (Arrived frame fate ∷ later) kept = same_settings later kept
-same_settings (Offered frame fate ∷ later) kept = same_settings later kept
+same_settings (OfferedArrived frame fate ∷ later) kept = same_settings later kept
 same_settings (Accessed access ∷ later) kept = same_settings later kept
 same_settings (Line level ∷ later) kept = same_settings later kept
 same_settings (Noted action ∷ later) kept = same_settings later (kept_one (Noted action) kept)

@@ -1,4 +1,5 @@
-// The answers to requests that aren't refused, and their lines.
+// The answers to requests that aren't refused, and their lines. `Says` states that the line was written, or at an error
+// a beginning of the line.
 
 ghost use Rattle.std.specs.Prelude.{◌≡◌, ◌≤◌, length};
 ghost use Rattle.server_output.specs.Answers.{IsSized, line_of, number_of_bytes};
@@ -39,8 +40,8 @@ fn number_of(bytes: &[u8]) -> u64
     u64::from_le_bytes(all)
 }
 
-/// Writes the line of an answer. An answer `Bytes` must contain the number of bytes that its request
-/// asks for.
+/// Writes the line of an answer. An answer `Bytes` must contain the number of bytes that its request asks for
+/// (`IsSized`). So the bytes of a number are at most 8.
 pub fn say_answer<W: Write>(
     alloc: Global,
     out: &mut W,

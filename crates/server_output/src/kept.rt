@@ -44,7 +44,8 @@ impl Clone for Kept {
 }
 
 impl Kept {
-    /// Keeps the frame that a step put, if the step put a frame and events aren't written.
+    /// Keeps the frame that a step put, until the request `frames` fetches the frame. Keeps nothing if events are
+    /// written, or if the step put no frame. Without such a frame, `frame` has no meaning.
     pub(crate) fn keep_put(
         &mut self,
         alloc: Global,
@@ -64,7 +65,8 @@ impl Kept {
         }
     }
 
-    /// Keeps the fault of a step, if there is a fault and events aren't written.
+    /// Keeps the fault of a step, until the request `faults` fetches the fault. Keeps nothing if events are written, or
+    /// if the step had no fault.
     pub(crate) fn keep_fault(&mut self, fault: Option<EngineFault>) -> Result<(), AllocError>
         ensures { OnOk result (self.new ≡ record self.old {
           faults = if self.old.events then self.old.faults else self.old.faults ++ as_list fault;
@@ -79,7 +81,7 @@ impl Kept {
         }
     }
 
-    /// Records an action in the recorder, if there is one. Fails only if memory was refused.
+    /// Records an action, if there is a recorder. Fails only if memory was refused.
     pub(crate) fn note(&mut self, action: Action) -> Result<(), AllocError>
         ensures { OnOk result (self.new ≡
             record self.old { recorder = option_map (after_playing action) self.old.recorder }) }

@@ -70,6 +70,7 @@ fn push_parts(text: &mut Vec<u8>, parts: &[&[u8]]) -> Result<(), AllocError>
 pub fn joined(alloc: Global, parts: &[&[u8]]) -> Result<Vec<u8>, AllocError>
     ensures { IfOk result (λ text. text.items ≡ texts.joined_parts parts.now) }
 {
+    // The length of the text, for one allocation. A sum above `usize::MAX` becomes this maximum, which is refused.
     let mut length: usize = 0;
     for part in parts {
         length = length.saturating_add(part.len());
@@ -79,7 +80,8 @@ pub fn joined(alloc: Global, parts: &[&[u8]]) -> Result<Vec<u8>, AllocError>
     Ok(text)
 }
 
-/// Appends the line of the log that consists of these parts, if the log is on.
+/// If the log is on, appends the line of the log with the parts `said`: `# `, the parts, and a line feed. Otherwise
+/// appends nothing.
 fn push_said(text: &mut Vec<u8>, log: bool, said: &[&[u8]]) -> Result<(), AllocError>
     ensures { OnOk result (text.new.items ≡ text.old.items ++ texts.said_log log (texts.joined_parts said.now)) }
 {
@@ -91,7 +93,8 @@ fn push_said(text: &mut Vec<u8>, log: bool, said: &[&[u8]]) -> Result<(), AllocE
     text.extend_from_slice(b"\n")
 }
 
-/// Returns the text about an event: its line of the log, if the log is on, and then `shown`.
+/// Returns the text about an event. If the log is on, the text begins with a line of the log, from the parts `said`.
+/// `shown` follows: the lines that don't depend on the log, or no text.
 pub(crate) fn event_text(
     alloc: Global,
     log: bool,
@@ -106,14 +109,15 @@ pub(crate) fn event_text(
     Ok(text)
 }
 
-/// Returns the line of a frame that was put onto the wire, from the frame's digits.
+/// Returns the line of a frame that was put onto the wire, from the frame's hexadecimal digits.
 pub(crate) fn frame_line(alloc: Global, digits: &[u8]) -> Result<Vec<u8>, AllocError>
     ensures { IfOk result (λ text. text.items ≡ texts.digits_line digits.now) }
 {
     joined(alloc, &[b"frame ", digits, b"\n"])
 }
 
-/// Returns the line of an offered frame that arrived, from the word of the frame's fate and the frame's digits.
+/// Returns the line of an offered frame that arrived, from the word of the frame's fate and the frame's hexadecimal
+/// digits.
 #[tactic(auto, unfolding(crate::specs::Texts::digits_arrived))]
 pub(crate) fn arrived_line<'a>(
     alloc: Global,
@@ -125,7 +129,8 @@ pub(crate) fn arrived_line<'a>(
     joined(alloc, &[b"arrived ", fate, b" ", digits, b"\n"])
 }
 
-/// Returns what `restore` prints: the new level of the interrupt line, if the line has changed, and `OK`.
+/// Returns what `restore` prints: a line with the new level of the interrupt line, if the level has changed, and then
+/// the line `OK`. `level` is the new level, or `None` if the level is the same as before.
 pub fn restored_text(level: Option<bool>) -> &'static [u8]
     ensures { result.now ≡ texts.line_told level ++ texts.ok_line }
 {
@@ -180,9 +185,10 @@ pub(crate) fn decimal_line(alloc: Global, number: u64) -> Result<Vec<u8>, AllocE
     word_line(alloc, digits.format(number).as_bytes())
 }
 
-/// Removes the oldest frame, if there is one, and appends the word of this frame. So the words of the text and of the
-/// remaining frames, joined, don't change. If memory is refused, the frame is lost.
+/// Removes the oldest frame, if there is one, and appends the word of this frame. If memory is refused, the frame is
+/// lost.
 fn push_frame(alloc: Global, text: &mut Vec<u8>, frames: &mut Frames) -> Result<(), AllocError>
+    // The text, followed by the words of the frames that are left, is the same before and after the call.
     ensures same { OnOk result (text.new.items ++ flat_map texts.frame_word frames.new
         ≡ text.old.items ++ flat_map texts.frame_word frames.old) }
     ensures few { OnOk result (length frames.new ≡ length frames.old - 1) }
@@ -195,8 +201,8 @@ fn push_frame(alloc: Global, text: &mut Vec<u8>, frames: &mut Frames) -> Result<
     text.extend_from_slice(digits.as_bytes())
 }
 
-/// Returns the line of an answer with frames, the oldest first, and removes the frames. If memory is refused, frames
-/// can also be removed.
+/// Returns the line of an answer with frames, the oldest first, and removes the frames. If memory is refused, some or
+/// all frames may be lost.
 pub(crate) fn frames_line(alloc: Global, frames: &mut Frames) -> Result<Vec<u8>, AllocError>
     ensures text { IfOk result (λ text. text.items ≡ texts.frames_line frames.old) }
     ensures none { OnOk result (frames.new ≡ []) }

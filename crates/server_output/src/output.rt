@@ -1,4 +1,5 @@
-// Writes texts, and the lines of answers.
+// Writes texts, and the lines of answers. `Says` states that the text was written, or at an error a beginning of the
+// text.
 
 ghost use Rattle.std.specs.Prelude.{◌≡◌, ◌≤◌, [], IfOk, OnErr, OnOk, length, take};
 ghost use Rattle.std.specs.Io.KnownBytes.{Appends, Keeps};
@@ -18,7 +19,8 @@ use std::io::{ErrorKind, Write};
 use text::turns;
 
 /// Writes a beginning of a text, with one call of the writer. Returns the number of bytes written, or 0 if the call was
-/// interrupted. Fails if the writer takes no byte, or has another error; then nothing was written.
+/// interrupted. Fails at any other error of the writer, and if the writer takes no byte, such as of an empty text.
+/// Then nothing was written.
 fn write_some<W: Write>(out: &mut W, text: &[u8]) -> Result<usize, AnswerError>
     ensures ok { IfOk result (λ count. Appends (W.contents out.old) (W.contents out.new) (take count text.now)) }
     ensures few { IfOk result (λ count. count ≤ length text.now) }
@@ -46,6 +48,7 @@ pub fn say<W: Write>(out: &mut W, text: &[u8]) -> Result<(), AnswerError>
         }
         written += write_some(out, &text[written..])?;
     }
+    // The text needed more than 2^64 - 1 turns.
     Err(AnswerError::Write)
 }
 
@@ -107,8 +110,8 @@ pub(crate) fn say_decimal<W: Write>(
     say(out, line.as_slice())
 }
 
-/// Writes the line of an answer with frames. If the line is written, no frame is left in the list. At an error, frames
-/// can also be removed.
+/// Writes the line of an answer with frames, the oldest first, and removes the frames. At an error, some or all frames
+/// may be lost.
 pub fn say_frames<W: Write>(
     alloc: Global,
     out: &mut W,
@@ -121,7 +124,7 @@ pub fn say_frames<W: Write>(
     say(out, line.as_slice())
 }
 
-/// Writes the line of an answer with faults.
+/// Writes the line of an answer with faults, the oldest first.
 pub fn say_faults<W: Write>(alloc: Global, out: &mut W, faults: &Faults) -> Result<(), AnswerError>
     ensures { Says result (W.contents out.old) (W.contents out.new) (texts.faults_line faults.now) }
 {

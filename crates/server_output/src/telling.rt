@@ -31,7 +31,8 @@ pub struct Lines<'a, W: Write> {
     pub out: &'a mut W,
     /// The frames, faults and actions that are kept, and which lines are written.
     pub kept: &'a mut Kept,
-    /// The line of the request, which the log prints for the request's access or arrival.
+    /// What the log prints for the request's access or arrival: the line of the request, and after `log targets` also
+    /// the name of the access's target.
     pub said: &'a [u8],
     /// The allocator of texts.
     pub alloc: Global,
@@ -103,8 +104,9 @@ impl<'a, W: Write> Lines<'a, W> {
     /// is on. If events are written, the line of the arrival with the fate follows.
     fn arrival_text(&self, frame: &[u8], fate: Fate) -> Result<Vec<u8>, AllocError>
         ensures { IfOk result (λ text. text.items ≡ told_text self.now.kept.now.log self.now.kept.now.events
-            self.now.said.now (told.Offered frame.now fate)) }
+            self.now.said.now (told.OfferedArrived frame.now fate)) }
     {
+        // The line of the log and the line of the arrival contain the same digits.
         let text = hex::encode(self.alloc, frame)?;
         let digits = text.as_bytes();
         let said: [&[u8]; 2] = [b"arrive ", digits];
@@ -115,7 +117,8 @@ impl<'a, W: Write> Lines<'a, W> {
         event_text(self.alloc, self.kept.log, &said, shown.as_slice())
     }
 
-    /// Writes a text. Stores the error if this fails. Writing must not have stopped before.
+    /// Writes a text. If this fails, stores the error in `stopped`, so writing stops. Writing must not have stopped
+    /// before.
     fn write(&mut self, text: &[u8])
         requires { self.old.stopped ≡ None }
         ensures state { self.new ≡ record self.old { out = self.new.out; stopped = self.new.stopped } }
@@ -127,8 +130,10 @@ impl<'a, W: Write> Lines<'a, W> {
         }
     }
 
-    /// Writes the line of an answer, which must be as for [`say_answer`]. If writing has stopped, writes nothing, and
+    /// Ends the text about a request: writes the line of the answer. If writing has stopped, writes nothing, and
     /// returns the error that stopped writing. Doesn't store an error.
+    ///
+    /// An answer `Bytes` must contain the number of bytes that its request asks for (`IsSized`).
     pub fn end(&mut self, answer: Answer<'_>) -> Result<(), AnswerError>
         requires { IsSized answer }
         ensures state { self.new ≡ record self.old { out = self.new.out } }
@@ -142,8 +147,8 @@ impl<'a, W: Write> Lines<'a, W> {
         }
     }
 
-    /// Writes the line of the log about an access or an arrival, if the log is on. Stores the error if this fails.
-    /// Writing must not have stopped before.
+    /// Writes the request's line of the log (`said`), if the log is on. The observer does this when it is told of the
+    /// request's access or arrival. Stores the error if this fails. Writing must not have stopped before.
     fn say_request(&mut self)
         requires { self.old.stopped ≡ None }
         ensures state { self.new ≡ record self.old { out = self.new.out; stopped = self.new.stopped } }
@@ -154,7 +159,7 @@ impl<'a, W: Write> Lines<'a, W> {
         if !self.kept.log {
             return;
         }
-        // The log is on, and no other line follows.
+        // `true`: the log is on. `&[]`: no other line follows.
         match event_text(self.alloc, true, &[self.said], &[]) {
             Ok(text) => self.write(text.as_slice()),
             Err(_) => self.stopped = Some(AnswerError::Memory),
@@ -170,6 +175,7 @@ impl<'a, W: Write> Lines<'a, W> {
         ensures kept { self.new.stopped ≡ None
             → self.new.kept.now ≡ kept_with (with_frame frame.now outcome) fault self.old.kept.now }
     {
+        // Both calls fail only if memory is refused.
         let kept = self.kept.keep_put(self.alloc, outcome, frame);
         if kept.is_err() || self.kept.keep_fault(fault).is_err() {
             self.stopped = Some(AnswerError::Memory);
@@ -199,6 +205,7 @@ impl<'a, W: Write> Observer for Lines<'a, W> {
       );
     } };
 
+    /// Keeps the step's frame and fault if events aren't written. Then writes the text about the step.
     fn stepped(
         &mut self,
         kind: StepKind,
@@ -219,13 +226,15 @@ impl<'a, W: Write> Observer for Lines<'a, W> {
         }
     }
 
+    /// Writes the request's line of the log, if the log is on. The request's answer contains the fate.
     fn arrived(&mut self, _frame: &[u8], _fate: Fate) {
         if self.stopped.is_none() {
             self.say_request();
         }
     }
 
-    fn offered(&mut self, frame: &[u8], fate: Fate) {
+    /// Writes the text about the arrival of an offered frame.
+    fn offered_arrived(&mut self, frame: &[u8], fate: Fate) {
         if self.stopped.is_some() {
             return;
         }
@@ -235,30 +244,35 @@ impl<'a, W: Write> Observer for Lines<'a, W> {
         }
     }
 
+    /// Writes the request's line of the log, if the log is on. The request's answer contains the value.
     fn read(&mut self, _offset: u32, _value: u32) {
         if self.stopped.is_none() {
             self.say_request();
         }
     }
 
+    /// Writes the request's line of the log, if the log is on. The line also contains what was written.
     fn written(&mut self, _offset: u32, _value: u32) {
         if self.stopped.is_none() {
             self.say_request();
         }
     }
 
+    /// Writes the request's line of the log, if the log is on. The request's answer contains the bytes.
     fn loaded(&mut self, _address: u64, _bytes: &[u8]) {
         if self.stopped.is_none() {
             self.say_request();
         }
     }
 
+    /// Writes the request's line of the log, if the log is on. The line also contains what was stored.
     fn stored(&mut self, _address: u64, _bytes: &[u8]) {
         if self.stopped.is_none() {
             self.say_request();
         }
     }
 
+    /// Records the action, if there is a recorder. Writes nothing.
     fn noted(&mut self, action: Action) {
         if self.stopped.is_some() {
             return;
@@ -268,6 +282,7 @@ impl<'a, W: Write> Observer for Lines<'a, W> {
         }
     }
 
+    /// Writes the line that reports the new level, also if the log and events are off.
     fn line(&mut self, level: bool) {
         if self.stopped.is_none() {
             self.write(level_text(level));

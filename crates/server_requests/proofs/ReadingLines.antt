@@ -10,7 +10,7 @@ use Rattle.std.specs.Prelude.{slice_index}
 use Rattle.std.specs.Io.KnownBytes.{Consumes}
 use Rattle.server_requests.specs.Lines.{behind_line, first_line, is_feed, lines_of, most_line_bytes, with_front}
 use Rattle.server_requests.specs.LinesRead.{Adds, AtEnd, BothKnown, IsRestOfLine, GoesOn}
-use Rattle.server_requests.specs.LinesRead.{IsLong, IsNextLine, IsWholeLine, TakesPart, kept_as}
+use Rattle.server_requests.specs.LinesRead.{IsLong, IsNextLine, IsWholeLine, TakesPart, whole_or_long}
 use Rattle.server_requests.specs.Texts.{Text}
 use Rattle.server_requests.specs.declared.line_reader.NextLine.TheVariants.{End}
 use Rattle.server_requests.specs.declared.line_reader.Part.TheVariants as parts
@@ -176,7 +176,7 @@ known_as (Some a) None P Q is holds = absurd holds
 known_as (Some a) (Some b) P Q is holds = is a b holds
 
 is_line : (line : Text) (is_long : Bool) (before after : Option (List ℕ)) → BothKnown before after (Done line is_long)
-    → IsNextLine (kept_as is_long) line before after
+    → IsNextLine (whole_or_long is_long) line before after
 is_line line true before after done =
     known_as before after (Done line true) IsLong
     (λ a c one. record {
@@ -197,7 +197,7 @@ is_line line false before after done =
 
 pub reads_last : (line line' : Text) (is_long more : Bool) (before now after : Option (List ℕ))
     → BothKnown before now (Reads line is_long) → BothKnown now after (TakesPart (parts.Last more) line line')
-    → IsNextLine (kept_as (is_long || more)) line' before after
+    → IsNextLine (whole_or_long (is_long || more)) line' before after
 reads_last line line' is_long more before now after reads takes =
     is_line line' (is_long || more) before after
     (known_then before now after (Reads line is_long) (TakesPart (parts.Last more) line line') (Done line' (is_long || more))
@@ -220,7 +220,7 @@ some_front most line (x ∷ got) a b some kept all none = cc
 
 pub reads_rest : (line line' : Text) (is_long : Bool) (before now after : Option (List ℕ)) → 0 < length line'
     → BothKnown before now (Reads line is_long) → BothKnown now after (TakesPart parts.None line line')
-    → IsNextLine (kept_as is_long) line' before after
+    → IsNextLine (whole_or_long is_long) line' before after
 reads_rest line line' is_long before now after some reads takes =
     is_line line' is_long before after
     (known_then before now after (Reads line is_long) (TakesPart parts.None line line') (Done line' is_long)

@@ -18,9 +18,9 @@ pub record AtEnd (old new : List ℕ) : Type 0 where
   pub none : old ≡ []
   pub still : new ≡ []
 
--- the result for a line, which is too long if the argument is true
-abbrev pub kept_as : Bool → NextLine
-kept_as is_long = if is_long then Long else Whole
+-- the result of reading a line: `Long` if the line is too long, else `Whole`
+abbrev pub whole_or_long : Bool → NextLine
+whole_or_long is_long = if is_long then Long else Whole
 
 -- These bytes were read, and no LF is among them.
 pub record GoesOn (bytes old new : List ℕ) : Type 0 where

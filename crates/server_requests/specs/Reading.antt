@@ -3,7 +3,7 @@ use Rattle.std.specs.Prelude.{◌==◌, ℕ, List, [], ◌∷◌, Bool, true, fa
 use Rattle.std.specs.Prelude.{replicate, IsUtf8}
 use Rattle.std.specs.Str.{bytes_eq}
 use Rattle.adapter.specs.declared.step.StepKind.{StepKind}
-use Rattle.server_requests.specs.Spellings.{Gives, bytes_spelled, greatest_number, number_below, payload_in, size_in, ◌>>=◌}
+use Rattle.server_requests.specs.Spellings.{Gives, bytes_spelled, greatest_number, number_at_most, payload_in, size_in, ◌>>=◌}
 use Rattle.server_requests.specs.Texts.{Text}
 use Rattle.server_requests.specs.Verbs.{step_kind_named, takes_words, verb_named}
 use Rattle.server_requests.specs.Widths.{bytes_spelling, greatest}
@@ -33,10 +33,10 @@ use Rattle.server_requests.specs.declared.verb.Verb.TheVariants.{Choose, Digest,
 abbrev pub most_count : ℕ
 most_count = 65535
 
--- the ADDR and the SIZE of a line, its words 1 and 2
+-- the ADDR and the SIZE of a line, its words 1 and 2, counted from 0
 abbrev pub area_in : List Text → Result Area Refusal
 area_in words = do
-  address ← number_below greatest_number (word 1 words)
+  address ← number_at_most greatest_number (word 1 words)
   size ← size_in (word 2 words)
   Ok (record { address = address; size = size })
 
@@ -55,10 +55,10 @@ write_in encoding words = do
 abbrev pub memset_in : List Text → Result Request Refusal
 memset_in words = do
   area ← area_in words
-  value ← number_below 0xFF (word 3 words)
+  value ← number_at_most 0xFF (word 3 words)
   Ok (requests.Write area.address (replicate area.size value))
 
--- whether a word is the first of two words; a word that is neither of them is refused
+-- true for the word `first`, and false for the word `second`; any other word is refused
 abbrev pub is_first : (first second word : Text) → Result Bool Refusal
 is_first first second word =
     if bytes_eq word first then Ok true else if bytes_eq word second then Ok false else Err refusals.Value
@@ -89,17 +89,17 @@ step_in word = step_or_refusal (step_kind_named word)
 -- the request to read a number of this width
 abbrev pub read_number_in : Width → List Text → Result Request Refusal
 read_number_in width words = do
-  address ← number_below greatest_number (word 1 words)
+  address ← number_at_most greatest_number (word 1 words)
   Ok (requests.Read (wanted.Number width) address)
 
 -- the request to write a number of this width
 abbrev pub write_number_in : Width → List Text → Result Request Refusal
 write_number_in width words = do
-  address ← number_below greatest_number (word 1 words)
-  value ← number_below (greatest width) (word 2 words)
+  address ← number_at_most greatest_number (word 1 words)
+  value ← number_at_most (greatest width) (word 2 words)
   Ok (requests.Write address (bytes_spelling width value))
 
--- what a request for this number of bytes in this encoding wants
+-- the number of bytes and the form of the answer, of a request to read this number of bytes in this encoding
 abbrev pub wanted_bytes : Encoding → ℕ → Wanted
 wanted_bytes encodings.Hexadecimal size = wanted.Bytes size
 wanted_bytes encodings.Base64 size = wanted.Base64 size
@@ -114,13 +114,13 @@ most_port = 0xFFFF
 
 -- the request to read an I/O port with this width
 abbrev pub read_port_in : PortWidth → Text → Result Request Refusal
-read_port_in width word = number_below most_port word >>= λ port. Ok (requests.Look (looks.Port width port))
+read_port_in width word = number_at_most most_port word >>= λ port. Ok (requests.Look (looks.Port width port))
 
 -- the request to write an I/O port with this width
 abbrev pub write_port_in : PortWidth → List Text → Result Request Refusal
 write_port_in width words = do
-  port ← number_below most_port (word 1 words)
-  value ← number_below (ones_of width) (word 2 words)
+  port ← number_at_most most_port (word 1 words)
+  value ← number_at_most (ones_of width) (word 2 words)
   Ok (requests.WritePort width port value)
 
 -- the request of `arrive HEX`
@@ -133,21 +133,21 @@ offer_in word = bytes_spelled word >>= λ bytes. Ok (requests.Offer bytes)
 
 -- the request of `interleave COUNT`
 abbrev pub interleave_in : Text → Result Request Refusal
-interleave_in word = number_below most_count word >>= λ count. Ok (requests.Set (settings.Interleave count))
+interleave_in word = number_at_most most_count word >>= λ count. Ok (requests.Set (settings.Interleave count))
 
 -- the request of `pace COUNT`
 abbrev pub pace_in : Text → Result Request Refusal
-pace_in word = number_below most_count word >>= λ count. Ok (requests.Set (settings.Pace count))
+pace_in word = number_at_most most_count word >>= λ count. Ok (requests.Set (settings.Pace count))
 
 -- the request of `clock_step NS`, or of `clock_step` without a number, which advances the clock by 0
 abbrev pub clock_step_in : List Text → Result Request Refusal
 clock_step_in words =
     if length words == 1 then Ok (requests.ClockStep 0)
-    else number_below greatest_number (word 1 words) >>= λ time. Ok (requests.ClockStep time)
+    else number_at_most greatest_number (word 1 words) >>= λ time. Ok (requests.ClockStep time)
 
 -- the request of `clock_set NS`
 abbrev pub clock_set_in : Text → Result Request Refusal
-clock_set_in word = number_below greatest_number word >>= λ time. Ok (requests.ClockSet time)
+clock_set_in word = number_at_most greatest_number word >>= λ time. Ok (requests.ClockSet time)
 
 -- the maximum limit of `choose`
 abbrev pub most_limit : ℕ
@@ -159,7 +159,7 @@ choose_below limit = if limit == 0 then Err refusals.Value else Ok (requests.Cho
 
 -- the request of `choose LIMIT`
 abbrev pub choose_in : Text → Result Request Refusal
-choose_in word = number_below most_limit word >>= choose_below
+choose_in word = number_at_most most_limit word >>= choose_below
 
 -- the request of `target ADDR SIZE`
 abbrev pub target_request : List Text → Result Request Refusal

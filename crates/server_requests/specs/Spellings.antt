@@ -33,9 +33,9 @@ abbrev pub at_most : ℕ → Option ℕ → Result ℕ Refusal
 at_most most (Some number) = if nat_le number most then Ok number else Err refusals.Value
 at_most most None = Err refusals.Value
 
--- the number that a word spells if it spells a number of at most `most`, or else the refusal `value`
-abbrev pub number_below : (most : ℕ) → Text → Result ℕ Refusal
-number_below most word = at_most most (number_spelled word)
+-- the number that a word spells if it spells a number up to and including `most`, or else the refusal `value`
+abbrev pub number_at_most : (most : ℕ) → Text → Result ℕ Refusal
+number_at_most most word = at_most most (number_spelled word)
 
 -- the greatest number of 64 bits
 abbrev pub greatest_number : ℕ
@@ -51,7 +51,7 @@ size_of_number size = if nat_lt most_bytes size then Err refusals.Size else Ok s
 
 -- the size in bytes that a word spells, or a refusal
 abbrev pub size_in : Text → Result ℕ Refusal
-size_in word = number_below greatest_number word >>= size_of_number
+size_in word = number_at_most greatest_number word >>= size_of_number
 
 -- the decoded bytes; an error of the decoder is the refusal `value`
 abbrev pub bytes_or_refusal : {E : Type 0} → Result (List ℕ) E → Result (List ℕ) Refusal

@@ -3,7 +3,7 @@
 ghost use Rattle.std.specs.Prelude.{◌≡◌, ◌≢◌, ◌<◌, ◌≤◌, All, IfOk, OnErr, OnOk, length, slice_index, take};
 ghost use Rattle.std.specs.Prelude.{vec_capacity};
 ghost use Rattle.std.specs.Io.KnownBytes.{Keeps};
-ghost use Rattle.server_requests.specs.LinesRead.{Adds, BothKnown, IsNextLine, TakesPart, kept_as};
+ghost use Rattle.server_requests.specs.LinesRead.{Adds, BothKnown, IsNextLine, TakesPart, whole_or_long};
 
 use std::io;
 use std::io::{BufRead, ErrorKind};
@@ -30,9 +30,9 @@ pub enum NextLine {
     Long,
 }
 
-/// Returns the result for a line, which is too long if `is_long` is true.
-fn kept_as(is_long: bool) -> NextLine
-    ensures { result ≡ kept_as is_long }
+/// Returns the result of reading a line: `Long` if `is_long` is true, else `Whole`.
+fn whole_or_long(is_long: bool) -> NextLine
+    ensures { result ≡ whole_or_long is_long }
 {
     if is_long {
         NextLine::Long
@@ -86,9 +86,10 @@ fn length_before_feed(bytes: &[u8]) -> usize
     count
 }
 
-/// Reads the next part of a line from the reader's buffer, and appends the part as far as there is room. If the buffer
-/// contains the end of the line, skips the line feed. At an error of the reader, nothing is read or appended. The line
-/// must be as for [`push_bytes`].
+/// Reads the next part of a line from the reader's buffer, and appends the part as far as there is room. The part ends
+/// before the first line feed, or else at the end of the buffer. The line feed is read, too, but not appended.
+///
+/// At an error of the reader, nothing is read or appended. The line must be as for [`push_bytes`].
 fn take_part<R: BufRead>(reader: &mut R, line: &mut Vec<u8>) -> io::Result<Part>
     requires room { MOST_LINE_BYTES ≤ vec_capacity line.old }
     requires fits { length line.old.items ≤ MOST_LINE_BYTES }
@@ -108,6 +109,7 @@ fn take_part<R: BufRead>(reader: &mut R, line: &mut Vec<u8>) -> io::Result<Part>
     }
     let count = length_before_feed(held);
     let is_long = push_bytes(line, &held[..count]);
+    // Without a line feed, `count` is the number of all bytes in the buffer.
     if count == held.len() {
         reader.consume(count);
         return Ok(Part::More { is_long });
@@ -138,10 +140,11 @@ pub fn next_line<R: BufRead>(reader: &mut R, line: &mut Vec<u8>) -> Result<NextL
             Ok(Part::None) => return Ok(if line.is_empty() {
                 NextLine::End
             } else {
-                kept_as(is_long)
+                whole_or_long(is_long)
             }),
             Ok(Part::More { is_long: more }) => is_long |= more,
-            Ok(Part::Last { is_long: more }) => return Ok(kept_as(is_long | more)),
+            Ok(Part::Last { is_long: more }) => return Ok(whole_or_long(is_long | more)),
+            // An interrupted read is made again in the next turn.
             Err(error) => if error.kind() != ErrorKind::Interrupted {
                 return Err(ReadFailed);
             },

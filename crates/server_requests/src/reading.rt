@@ -1,8 +1,9 @@
-// Reads requests from the words of a line. A function with an allocator fails with `Stop::Memory` if memory is refused.
+// Reads requests from the words of a line. `Gives` states that the result is this request, or this refusal, unless
+// memory was refused. A function with an allocator fails with `Stop::Memory` if memory is refused.
 
 ghost use Rattle.std.specs.Prelude.{◌≡◌, ◌≢◌, ◌≤◌, IfErr, IsTrue, length};
 ghost use Rattle.server_requests.specs.Reading as reading;
-ghost use Rattle.server_requests.specs.Spellings.{Gives, number_below};
+ghost use Rattle.server_requests.specs.Spellings.{Gives, number_at_most};
 ghost use Rattle.server_requests.specs.Verbs.{takes_words};
 ghost use Rattle.server_requests.specs.Words.{texts};
 ghost use Rattle.server_requests.specs.declared.refusal.Stop.TheVariants.{Memory};
@@ -37,8 +38,8 @@ struct Area {
     size: u64,
 }
 
-/// Returns the ADDR and the SIZE of a line, its words 1 and 2. The line must have these words. Refuses an invalid ADDR
-/// or SIZE.
+/// Returns the ADDR and the SIZE of a line, its second and third words. The line must have these words. Refuses an
+/// invalid ADDR or SIZE.
 fn area_of(words: &[&str]) -> Result<Area, Stop>
     requires { 3 ≤ length words.now }
     ensures { Gives result (reading.area_in (texts words.now)) }
@@ -76,6 +77,7 @@ fn memset_of(alloc: Global, words: &[&str]) -> Result<Request, Stop>
 {
     let area = area_of(words)?;
     let value = number_at(word_at(words, 3), u64::from(u8::MAX))?;
+    // VALUE is at most 255, and SIZE at most 65,536, so the casts keep them.
     let bytes = vec![in alloc; value as u8; area.size as usize]?;
     Ok(Request::Write(area.address, Payload { bytes }))
 }
@@ -102,7 +104,8 @@ fn write_number_of(alloc: Global, width: Width, words: &[&str]) -> Result<Reques
     Ok(Request::Write(address, Payload { bytes }))
 }
 
-/// Returns what a request for this number of bytes in this encoding wants.
+/// Returns the `Wanted` of a request to read this number of bytes in this encoding: the number, and the form of the
+/// answer.
 fn wanted_bytes(encoding: Encoding, size: u64) -> Wanted
     ensures { result ≡ reading.wanted_bytes encoding size }
 {
@@ -123,7 +126,7 @@ fn read_of(encoding: Encoding, words: &[&str]) -> Result<Request, Stop>
 
 /// Returns the number of an I/O port that a word spells. Refuses a word that isn't a number, or a number above 65,535.
 fn port_at(word: &str) -> Result<u16, Stop>
-    ensures value { Gives result (number_below reading.most_port word.now) }
+    ensures value { Gives result (number_at_most reading.most_port word.now) }
     ensures no_memory { IfErr result (λ stop. stop ≢ Memory) }
 {
     let port = number_at(word, MOST_PORT)?;
@@ -174,7 +177,7 @@ fn interleave_of(word: &str) -> Result<Request, Stop>
     Ok(Request::Set(Setting::Interleave(count as u16)))
 }
 
-/// Returns whether a word is the first of two words. Refuses a word that is neither of them.
+/// Returns true for the word `first`, and false for the word `second`. Refuses any other word.
 fn is_first(word: &str, first: &str, second: &str) -> Result<bool, Stop>
     ensures value { Gives result (reading.is_first first.now second.now word.now) }
     ensures no_memory { IfErr result (λ stop. stop ≢ Memory) }
@@ -278,8 +281,8 @@ fn target_of(words: &[&str]) -> Result<Request, Stop>
     Ok(Request::Look(Look::Target(area.address, area.size)))
 }
 
-/// Returns the request of a line with this kind of request. The line must have an allowed number of words. Refuses a
-/// line with an invalid word, or with a payload that doesn't have SIZE bytes.
+/// Returns the request of a line, whose first word is of this kind. The line must have a number of words that the kind
+/// allows. Refuses a line with an invalid word, or with a payload that doesn't have SIZE bytes.
 fn request_with(alloc: Global, verb: Verb, words: &[&str]) -> Result<Request, Stop>
     requires { IsTrue (takes_words verb (length words.now)) }
     ensures { Gives result (reading.request_with verb (texts words.now)) }

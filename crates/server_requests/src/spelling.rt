@@ -2,7 +2,7 @@
 // The other functions never fail with it (`no_memory`).
 
 ghost use Rattle.std.specs.Prelude.{◌≢◌, IfErr};
-ghost use Rattle.server_requests.specs.Spellings.{Gives, base64_in, bytes_spelled, number_below, payload_in};
+ghost use Rattle.server_requests.specs.Spellings.{Gives, base64_in, bytes_spelled, number_at_most, payload_in};
 ghost use Rattle.server_requests.specs.Spellings.{prefixed_bytes_in, size_in};
 ghost use Rattle.server_requests.specs.declared.refusal.Stop.TheVariants.{Memory};
 
@@ -19,8 +19,9 @@ use text::number_of;
 pub(crate) const MOST_BYTES: u64 = 65_536;
 
 /// Returns the number that a word spells. Refuses a word that isn't a number, or that spells a number above `most`.
+/// `most` itself is accepted, also by `number_at_most most`.
 pub(crate) fn number_at(text: &str, most: u64) -> Result<u64, Stop>
-    ensures value { Gives result (number_below most text.now) }
+    ensures value { Gives result (number_at_most most text.now) }
     ensures no_memory { IfErr result (λ stop. stop ≢ Memory) }
 {
     match number_of(text) {
@@ -29,11 +30,13 @@ pub(crate) fn number_at(text: &str, most: u64) -> Result<u64, Stop>
     }
 }
 
-/// Returns the SIZE that a word spells, in bytes. Refuses a word that isn't a number, or is a number above 65,536.
+/// Returns the SIZE that a word spells, in bytes. Refuses a word that isn't a number (`Value`), or that spells a number
+/// above [`MOST_BYTES`] (`Size`).
 pub(crate) fn size_at(text: &str) -> Result<u64, Stop>
     ensures value { Gives result (size_in text.now) }
     ensures no_memory { IfErr result (λ stop. stop ≢ Memory) }
 {
+    // With `MOST_BYTES` here, the refusal of a greater number would be `Value`.
     let size = number_at(text, u64::MAX)?;
     if size > MOST_BYTES {
         return Err(Stop::Refused(Refusal::Size));

@@ -83,7 +83,8 @@ pub(crate) enum Verb {
 }
 
 impl Verb {
-    /// Returns whether a line with this kind of request may have this number of words, with the first word.
+    /// Returns whether a line with this kind of request may have `count` words. The first word, which names the kind,
+    /// counts, too.
     pub(crate) fn takes_words(self, count: usize) -> bool
         ensures { result ≡ takes_words self count }
     {

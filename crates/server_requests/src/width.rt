@@ -43,7 +43,7 @@ impl Width {
     }
 }
 
-/// Returns the greatest number that an access of this width can write to an I/O port.
+/// Returns the greatest number that an access of this width can write to an I/O port: all its bits are 1.
 pub(crate) fn greatest_at_port(width: PortWidth) -> u64
     ensures { result ≡ ones_of width }
 {
@@ -55,7 +55,7 @@ pub(crate) fn greatest_at_port(width: PortWidth) -> u64
 }
 
 impl Wanted {
-    /// Returns the number of bytes that are read.
+    /// Returns the number of bytes that the request reads.
     pub fn size(self) -> u64
         ensures { result ≡ wanted_size self }
     {

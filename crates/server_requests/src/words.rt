@@ -32,6 +32,7 @@ fn cut(line: &str) -> (&str, Option<&str>)
     ensures parts { slice_split is_blank line.entry.now ≡ result.0.now ∷ parts_after result.1 }
     ensures shorter { IfSome result.1 (λ later. length later.now < length line.entry.now) }
 {
+    // A space or a tab is one byte of UTF-8, so both parts are UTF-8.
     match first_blank(line.as_bytes()) {
         Some(end) => (&line[..end], Some(&line[end + 1..])),
         None => (line, None),
@@ -48,8 +49,8 @@ fn push_part<'a>(words: &mut ArrayVec<&'a str, READ_WORDS>, part: &'a str)
     }
 }
 
-/// Returns the first five words of a line, or all words if the line has fewer. Spaces and tabs separate words. The
-/// request, or the refusal, of these words is that of all words of the line.
+/// Returns the first five words of a line, or all words if the line has fewer. Spaces and tabs separate words. No
+/// request has five words, so these words have the same request, or the same refusal, as all words of the line.
 pub(crate) fn words_in(line: &str) -> ArrayVec<&str, READ_WORDS>
     ensures words { texts result.items ≡ take READ_WORDS (words_of line.entry.now) }
     ensures asked { request_in (texts result.items) ≡ request_in (words_of line.entry.now) }

@@ -152,7 +152,7 @@ pub record PlaysSoloTicks (ticks left : List SoloTick) (a b : SoloState) : Type 
 
 -- From `a` to `b`, the bus plays its own ticks and the next group before an access. The bus also counts the access, up to the greatest u64.
 pub record Prepared (a b : SoloState) : Type 0 where
-  -- The ticks are played, and the other ticks still wait. Only the count of accesses differs from `b`.
+  -- Except for its count of accesses, `b` is the bus after these ticks are played. The other ticks still wait.
   pub plays : PlaysSoloTicks (lively_ticks a.lively ++ group_of is_solo_go a.waiting) (behind_group is_solo_go a.waiting) a
       (record b { accesses = a.accesses })
   pub count : b.accesses ≡ min (a.accesses + 1) most_accesses

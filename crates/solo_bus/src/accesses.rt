@@ -22,6 +22,7 @@ impl Bus for SoloBus {
 
     ghost happened = { λ a b past. Recounts a b past };
 
+    // Nothing is lent to a solo bus. This member states that the bus's setting `lively` doesn't change.
     ghost lent_stays = { λ a b. b.lively ≡ a.lively };
 
     ghost composes = { record {
@@ -63,6 +64,7 @@ impl HonestBus for SoloBus {
     ghost use Rattle.bus.specs.LivelyBuses.{most_accesses};
     ghost use Rattle.solo_bus.specs.SoloLaws.{recounts_count};
 
+    // `min`: in contracts, the field may be any natural number, also one that is too large for a `u64`.
     ghost counted = { λ bus. min bus.accesses most_accesses };
 
     ghost always = { λ bus. tt };

@@ -3,10 +3,15 @@
 ghost use Rattle.solo_bus.specs.SoundWorlds.{HasFinished, HasFramesInBuffer, HasFramesInRing, HasRings, HasPieceInWork};
 ghost use Rattle.solo_bus.specs.SoundWorlds.{HasWrittenBack, SomeSound};
 
-/// States that the conditions of the bus law can be met: in six worlds, the conditions hold, frames fit into their
-/// buffers, and both engines can run. In the first world, both rings are set up, and receive slots are offered. The
-/// others have, in this order, a piece in progress, a finished receive slot, a written-back transmit slot, frames to be
-/// sent in offered transmit slots, and buffered transmit frames. The function does nothing: its contract is the law.
+/// States that the conditions of the bus law can be met. For each clause, there is a world in which they hold, frames
+/// fit into their buffers, and both engines can run. The function does nothing: its contract is the law. In the worlds
+/// of the clauses:
+/// - `rings`: both rings are set up, and receive slots are offered.
+/// - `work`: a piece of a received frame is in progress.
+/// - `finished`: the oldest receive slot is finished.
+/// - `written`: the oldest transmit slot is written back.
+/// - `in_ring`: transmit slots are offered, and frames are to be sent.
+/// - `in_buffer`: frames are in the transmit packet buffer.
 pub fn conditions_can_be_met()
     ensures rings { SomeSound HasRings }
     ensures work { SomeSound HasPieceInWork }

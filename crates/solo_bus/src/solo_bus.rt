@@ -109,14 +109,14 @@ impl SoloBus {
         let wire_free = self.wire.len() < WIRE_FRAMES;
         if wire_free && kind == StepKind::TxPut {
             // The step removes the frame from the adapter, so the frame is copied before.
-            self.put_oldest();
+            self.copy_oldest_to_wire();
         }
         self.machine.step(kind, wire_free)
     }
 
-    /// Copies the frame that the adapter puts next, if there is one, to the end of the frames on the wire. The wire
-    /// must have room.
-    fn put_oldest(&mut self)
+    /// Copies the frame that the adapter puts next, the oldest one in its packet buffer, to the end of the frames on
+    /// the wire. If the packet buffer is empty, nothing changes. The wire must have room.
+    fn copy_oldest_to_wire(&mut self)
         requires { length self.old.wire < WIRE_FRAMES }
         ensures { self.new ≡ record self.old {
           wire = self.old.wire ++ frames_put_next self.old.world.adapter.transmitter.buffer;
@@ -147,9 +147,10 @@ impl SoloBus {
         Some(frame)
     }
 
-    /// Appends ticks to those that wait. Before each later access, the ticks up to the next [`Go`](SoloTick::Go) are
-    /// played, or all ticks if no `Go` waits. At most 32 ticks, including these, may wait.
-    pub fn play(&mut self, ticks: &[SoloTick])
+    /// Appends ticks to those that wait. Plays none now. Before each later access, the ticks up to
+    /// the next [`Go`](SoloTick::Go) are played, or all ticks if no `Go` waits. At most 32 ticks, including these, may
+    /// wait.
+    pub fn queue(&mut self, ticks: &[SoloTick])
         requires room { length self.old.waiting + length ticks.now ≤ MOST_TICKS }
         ensures { self.new ≡ record self.old { waiting = self.old.waiting ++ ticks.now } }
     {
@@ -167,8 +168,8 @@ impl SoloBus {
         self.waiting.len()
     }
 
-    /// Plays and removes all ticks that wait, and skips each [`Go`](SoloTick::Go). No access is made or counted, and
-    /// the outcomes and fates are dropped.
+    /// Plays and removes all ticks that wait, such as those after a driver's last access, and skips each
+    /// [`Go`](SoloTick::Go). No access is made or counted, and the outcomes and fates are dropped.
     pub fn finish(&mut self)
         ensures { PlaysSoloTicks (without_go is_solo_go self.old.waiting) [] self.old self.new }
     {
@@ -204,7 +205,8 @@ impl SoloBus {
         }
     }
 
-    /// If the bus is lively, plays a tick of the EEPROM, and then a tick of the PHY.
+    /// Plays the ticks of a lively bus before an access: a tick of the EEPROM, and then a tick of the PHY. If the bus
+    /// isn't lively, plays no tick.
     fn live(&mut self)
         ensures { PlaysSoloTicks (lively_ticks self.old.lively) self.old.waiting self.old self.new }
     {
@@ -222,8 +224,8 @@ impl SoloBus {
         self.accesses = self.accesses.saturating_add(1);
     }
 
-    /// Plays the ticks that precede an access: first the bus's own (`live`), and then those up to the next
-    /// [`Go`](SoloTick::Go) (`play_group`). Counts the access, but doesn't make it.
+    /// Plays the ticks that precede an access: first those of a lively bus (`live`), and then those that wait up to the
+    /// next [`Go`](SoloTick::Go) (`play_group`). Counts the access, but doesn't make it.
     pub(crate) fn prepare(&mut self)
         ensures { Prepared self.old self.new }
     {

@@ -2,7 +2,8 @@
 //!
 //! Each bus has a new adapter whose link is never up, and 4,096 bytes of memory. Memory is all zeros at first, so each
 //! receive descriptor has the buffer at 0. The receive ring is at 2,048, the transmit ring at 2,176, and data to be
-//! sent at 2,304. Each ring has eight slots. Slot 0 is the driver's oldest slot in both rings.
+//! sent at 2,304. Each ring has eight slots. Slot 0 is the driver's oldest slot in both rings. The clauses `world`
+//! state the exact world of each bus (`specs/SoundBuses.antt`), and the clauses `sound` that the conditions hold.
 
 ghost use Rattle.std.specs.Prelude.{◌≡◌, IfOk};
 ghost use Rattle.solo_bus.specs.SoundWorlds.{HasFinished, HasFramesInBuffer, HasFramesInRing, HasRings, HasPieceInWork};
@@ -50,12 +51,13 @@ pub fn with_rings(alloc: Global, image: &Image) -> Result<SoloBus, AllocError>
     ensures sound { IfOk result (λ bus. Sound 0 0 bus.world) }
     ensures rings { IfOk result (λ bus. HasRings bus.world) }
 {
-    let mut bus = at_rest(alloc, image)?;
+    let mut bus = with_idle_rings(alloc, image)?;
     bus.write_now(RDT, 1);
     Ok(bus)
 }
 
-/// Returns a bus with a piece of a frame in progress.
+/// Returns a bus with a piece of a received frame in progress: the whole frame is in memory, but its descriptor isn't
+/// written back.
 ///
 /// # Errors
 ///
@@ -72,7 +74,7 @@ pub fn with_work(alloc: Global, image: &Image) -> Result<SoloBus, AllocError>
     Ok(bus)
 }
 
-/// Returns a bus with a finished receive slot.
+/// Returns a bus with a finished receive slot, which contains a whole frame.
 ///
 /// # Errors
 ///
@@ -97,13 +99,13 @@ pub fn with_frame_to_send(alloc: Global, image: &Image) -> Result<SoloBus, Alloc
     ensures sound { IfOk result (λ bus. Sound 0 0 bus.world) }
     ensures in_ring { IfOk result (λ bus. HasFramesInRing bus.world) }
 {
-    let mut bus = at_rest(alloc, image)?;
+    let mut bus = with_idle_rings(alloc, image)?;
     bus.store_now(u64::from(TRANSMIT_RING), &REQUEST);
     bus.write_now(TDT, 1);
     Ok(bus)
 }
 
-/// Returns a bus with a frame in the transmit packet buffer.
+/// Returns a bus with a frame in the transmit packet buffer, taken from the first transmit slot.
 ///
 /// # Errors
 ///
@@ -119,7 +121,7 @@ pub fn with_buffered_frame(alloc: Global, image: &Image) -> Result<SoloBus, Allo
 }
 
 /// Returns a bus on which both rings are set up, and no slot is offered. Returns an error only if an allocation fails.
-fn at_rest(alloc: Global, image: &Image) -> Result<SoloBus, AllocError>
+fn with_idle_rings(alloc: Global, image: &Image) -> Result<SoloBus, AllocError>
     ensures { IfOk result (λ bus. bus.world ≡ resting MEMORY_BYTES image.now) }
 {
     let adapter = Adapter::new(alloc, image, Link::Never)?;

@@ -76,10 +76,14 @@ ReadIn log entries ends = (k : ℕ) (end : End) → slice_get ends k ≡ Some en
 -- `before`. Of the ends, only the cursors of those that read the log change.
 pub record MakesRoom (log : ℕ) (before after : List LogEntry) (old new : List End) : Type 0 where
   pub room : length after < log_entries
+  -- the new cursor of each end
   pub cursors : (k : ℕ) → End → ℕ
   pub each : (k : ℕ) → slice_get new k ≡ option_map (λ (end : End). record end { cursor = cursors k end }) (slice_get old k)
+  -- the cursor of an end that reads another log is the same
   pub others : (k : ℕ) (end : End) → end.log ≢ log → cursors k end ≡ end.cursor
+  -- the new cursors are in the log: at most at its end
   pub below : (k : ℕ) (end : End) → slice_get old k ≡ Some end → end.log ≡ log → cursors k end ≤ length after
+  -- the same frames wait
   pub same : (k : ℕ) (end : End) → slice_get old k ≡ Some end → end.log ≡ log
       → frames_of_others k (drop (cursors k end) after) ≡ frames_of_others k (drop end.cursor before)
 

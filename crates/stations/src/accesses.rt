@@ -34,6 +34,8 @@ impl<'a, 't, O: Observer> Bus for LentBus<'a, 't, O> {
 
     ghost sized = { λ bus honest. refl };
 
+    // `size` isn't an access. Each other call is one access: `prepare` plays the ticks that come before this access,
+    // and counts the access.
     fn size(&self) -> u64 {
         self.stations.size(self.host)
     }

@@ -34,7 +34,7 @@ impl Model for HeapFrame {
 impl HeapFrame {
     ghost use Rattle.std.specs.Prelude.{◌≡◌, ◌≤◌, [], length, IfOk};
 
-    /// Returns an empty frame, with room for the bytes of any frame.
+    /// Returns an empty frame, with room for 1,518 bytes.
     ///
     /// # Errors
     ///

@@ -33,7 +33,8 @@ pub struct LentBus<'a, 't, O: Observer> {
 impl<'a, 't, O: Observer> LentBus<'a, 't, O> {
     ghost use Rattle.stations.specs.LentBuses.{Finished, PreparedLent};
 
-    /// Plays the ticks up to the next `Go`, or all ticks if no `Go` remains, and counts the access that follows them.
+    /// Prepares the bus for one access: plays the ticks before the next `Go`, or all ticks if no `Go` remains, and
+    /// counts the access. The access itself follows.
     #[inline(always)]
     pub(crate) fn prepare(&mut self)
         ensures { PreparedLent self.old self.new }
@@ -46,12 +47,13 @@ impl<'a, 't, O: Observer> LentBus<'a, 't, O> {
         self.prepare_group();
     }
 
-    /// Plays the ticks up to the next `Go`, or all ticks if no `Go` remains, and counts the access that follows them.
-    /// [`prepare`](LentBus::prepare) calls this function only if ticks remain.
+    /// Does the same as [`prepare`](LentBus::prepare), which calls this function only if ticks remain. Two functions
+    /// keep short what is inlined at each access.
     #[inline(never)]
     fn prepare_group(&mut self)
         ensures { PreparedLent self.old self.new }
     {
+        // The outcomes of the ticks have the number of accesses before this access.
         let accesses = self.accesses;
         self.ticks = self
             .stations
@@ -70,14 +72,13 @@ impl<'a, 't, O: Observer> LentBus<'a, 't, O> {
         self.finish_ticks();
     }
 
-    /// Plays the remaining ticks, and skips each `Go`. [`finish`](LentBus::finish) calls this function only if ticks
-    /// remain.
+    /// Does the same as [`finish`](LentBus::finish), which calls this function only if ticks remain.
     #[inline(never)]
     fn finish_ticks(&mut self)
         ensures { Finished self.old self.new }
     {
         self.stations
-            .play_rest(self.ticks, self.accesses, self.observer);
+            .play_without_go(self.ticks, self.accesses, self.observer);
         self.ticks = &[];
     }
 }

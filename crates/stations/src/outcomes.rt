@@ -65,7 +65,8 @@ impl Outcomes {
         Ok(outcomes)
     }
 
-    /// Makes room for at least `more` further outcomes, each with its frame. The list doesn't change.
+    /// Makes room for at least `more` further outcomes, each with its frame, so that `note` allocates no memory. The
+    /// list doesn't change, even after an error.
     ///
     /// # Errors
     ///

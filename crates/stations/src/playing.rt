@@ -14,8 +14,9 @@ use crate::tick::Tick;
 use adapter::{Outcome, StepKind};
 
 impl Stations {
-    /// Plays a tick. The observer is told the tick's outcome, with the number of accesses that the call made before
-    /// the tick. The observer must have room for one more outcome.
+    /// Plays a tick: a step, a delivery, or `Go`, which changes no station and has the outcome `Nothing`. The observer
+    /// is told the tick's outcome, with `accesses`, the number of accesses that the call made before the tick. The
+    /// observer must have room for one more outcome.
     #[inline(always)]
     pub fn play<O: Observer>(&mut self, tick: Tick, accesses: u64, observer: &mut O)
         requires room { 0 < O.room_left observer.old }
@@ -80,14 +81,16 @@ impl Stations {
             observer.note(tick, accesses, Outcome::WireFull, &[]);
             return;
         }
+        // The step comes last, because it removes `frame` from the packet buffer. The buffer has a frame and the wire
+        // is free (`true`), so the step's outcome is `Put`.
         observer.note(tick, accesses, Outcome::Put(()), frame);
         self.wires.put(host, frame);
-        // The wire is free, so the outcome is `Put`, which the observer was told before.
         self.machines[host].step(StepKind::TxPut, true);
     }
 
-    /// Delivers the oldest frame that waits at a host's end. If no frame waits, or there is no such host, the outcome
-    /// is `Nothing`. The observer must have room for one more outcome.
+    /// Delivers the oldest frame that waits at a host's end of its wire to the host's adapter. The outcome is
+    /// `Delivered`, with the frame's fate. If no frame waits, or there is no such host, the outcome is `Nothing`. The
+    /// observer must have room for one more outcome.
     #[inline(never)]
     fn deliver<O: Observer>(&mut self, host: usize, accesses: u64, observer: &mut O)
         requires room { 0 < O.room_left observer.old }
@@ -105,12 +108,14 @@ impl Stations {
         };
         let fate = self.machines[host].arrive(frame);
         observer.note(tick, accesses, Outcome::Delivered((), fate), frame);
+        // `frame` is borrowed from the wire's log, so it is removed from the host's end only now.
         self.wires.pop(host);
     }
 
-    /// Plays the ticks up to the next `Go`, and returns the ticks after this `Go`. If there is no `Go`, plays all
+    /// Plays the ticks before the first `Go`, and returns the ticks after this `Go`. If there is no `Go`, plays all
     /// ticks, and returns no tick. The observer is told each outcome, with the number `accesses`. The observer must
-    /// have room for one outcome for each of `ticks`, and then has room for those that are returned.
+    /// have room for one outcome for each of `ticks`. After the call, the observer has room for one outcome for each
+    /// tick that is returned.
     #[inline(never)]
     pub(crate) fn play_group<'t, O: Observer>(
         &mut self,
@@ -135,16 +140,18 @@ impl Stations {
         rest
     }
 
-    /// Plays all ticks except each `Go`, in order. The observer is told each outcome, with the number `accesses`. The
-    /// observer must have room for one outcome for each of `ticks`.
+    /// Plays all ticks except each `Go`, in order, such as the ticks that remain after a call's last access. The
+    /// observer is told each outcome, with the number `accesses`. The observer must have room for one outcome for each
+    /// of `ticks`.
     #[inline(never)]
-    pub fn play_rest<O: Observer>(&mut self, ticks: &[Tick], accesses: u64, observer: &mut O)
+    pub fn play_without_go<O: Observer>(&mut self, ticks: &[Tick], accesses: u64, observer: &mut O)
         requires room { length ticks.now ≤ O.room_left observer.old }
         ensures { PlaysTicks O.Observer (without_go is_go ticks.now) accesses (watched self.old observer.old)
             (watched self.new observer.new) }
     {
         let mut rest = ticks;
         while !rest.is_empty() {
+            // Plays the ticks before the next `Go`, and skips this `Go`.
             rest = self.play_group(rest, accesses, observer);
         }
     }

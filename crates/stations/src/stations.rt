@@ -110,6 +110,7 @@ impl Stations {
         } ∷ []) }
         ensures err { OnErr result (self.new ≡ self.old) }
     {
+        // `make_place` also makes room for the machine, so no error can follow after the end was appended.
         make_place(&mut self.machines, &mut self.wires, alloc, wire)?;
         append(&mut self.machines, machine);
         Ok(())
@@ -143,8 +144,9 @@ impl Stations {
     }
 
     /// Appends to `sending` the frames that a host has still to send. Appends to `holding` the received frames in the
-    /// host's receive ring, from the slot `oldest` on, and in its receive packet buffer. Both lists must have room for
-    /// these frames. The rings and the bytes of these frames must be inside memory, and no frame may exceed 1,518
+    /// host's receive ring, from the slot `oldest` on, and in its receive packet buffer. A caller passes the driver's
+    /// oldest outstanding slot as `oldest`. Both lists must have room for these frames. The capacity of `holding`
+    /// doesn't decrease. The rings and the bytes of these frames must be inside memory, and no frame may exceed 1,518
     /// bytes. See [`Adapter::pending`](adapter::Adapter::pending).
     pub fn pending(
         &self,
@@ -162,12 +164,15 @@ impl Stations {
             ≤ vec_capacity holding.old }
         ensures sending { sending.new.items ≡ sending.old.items ++ frames_to_send (world_at self.now host) }
         ensures holding { holding.new.items ≡ holding.old.items ++ frames_held oldest (world_at self.now host) }
+        ensures holding_capacity { vec_capacity holding.old ≤ vec_capacity holding.new }
     {
         self.machine(host).pending(oldest, sending, holding);
     }
 
-    /// Performs one step of a host's adapter, which mustn't be TxPut, and returns the outcome. No other station and no
-    /// wire changes.
+    /// Performs one step of a host's adapter, and returns the outcome. No other station and no wire changes, so the
+    /// step mustn't be TxPut (`stays`).
+    /// - `occurs`: the adapter can take this step with this outcome. `true` stands for a wire with room, which matters
+    ///   only for TxPut.
     pub fn step(&mut self, host: usize, kind: StepKind) -> Outcome<()>
         requires there { host < length self.old }
         requires stays { kind ≢ TxPut }
@@ -197,6 +202,7 @@ impl Stations {
         requires there { host < length self.now }
         ensures line { IsTrue result ↔ Meet (world_at self.now host).adapter.causes.recorded
             (world_at self.now host).adapter.causes.mask }
+        // The invariant of the host's adapter, for the proofs of callers.
         ensures adapter { IsAdapter (world_at self.now host).adapter }
     {
         self.machine(host).line()
@@ -207,6 +213,7 @@ impl Stations {
         requires there { host < length self.old }
         ensures answer { result ≡ answer_at offset (world_at self.old host).adapter }
         ensures state { self.new ≡ stations_after host (Accesses (Reads offset result)) self.old }
+        // The invariant of the host's adapter, for the proofs of callers.
         ensures adapter { IsAdapter (world_at self.old host).adapter }
     {
         self.machines[host].read(offset)
@@ -216,27 +223,31 @@ impl Stations {
     pub(crate) fn write(&mut self, host: usize, offset: u32, value: u32)
         requires there { host < length self.old }
         ensures state { self.new ≡ stations_after host (Accesses (Writes offset value)) self.old }
+        // The invariant of the host's adapter, for the proofs of callers.
         ensures adapter { IsAdapter (world_at self.old host).adapter }
     {
         self.machines[host].write(offset, value);
     }
 
-    /// Fills `into` with the bytes from an address of a host's memory on. The bytes must be in memory.
+    /// Fills `into` with bytes of a host's memory, the first of which is at `address`. All these bytes must be in
+    /// memory.
     pub(crate) fn load(&self, host: usize, address: u64, into: &mut [u8])
         requires there { host < length self.now }
         requires lies { LiesIn (world_at self.now host).memory address (length into.old) }
         ensures loaded { into.new ≡ bytes_at (world_at self.now host).memory address (length into.old) }
+        // The invariant of the host's adapter, for the proofs of callers.
         ensures adapter { IsAdapter (world_at self.now host).adapter }
     {
         self.machine(host).load(address, into);
     }
 
-    /// Stores bytes from an address of a host's memory on. The bytes must be in memory. No other station and no wire
-    /// changes.
+    /// Stores bytes in a host's memory, the first at `address`. The places of all bytes must be in memory. No other
+    /// station and no wire changes.
     pub(crate) fn store(&mut self, host: usize, address: u64, bytes: &[u8])
         requires there { host < length self.old }
         requires lies { LiesIn (world_at self.old host).memory address (length bytes.now) }
         ensures state { self.new ≡ stations_after host (Accesses (Stores address bytes.now)) self.old }
+        // The invariant of the host's adapter, for the proofs of callers.
         ensures adapter { IsAdapter (world_at self.old host).adapter }
     {
         self.machines[host].store(address, bytes);

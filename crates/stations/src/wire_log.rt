@@ -64,7 +64,7 @@ impl WireLog {
         self.entries.as_slice()
     }
 
-    /// Appends a frame of a sender. The log must not be full.
+    /// Appends a frame of at most 1,518 bytes, with its sender. The log must not be full.
     pub(crate) fn append(&mut self, sender: usize, frame: &[u8])
         requires room { length self.old < log_entries }
         requires fits { length frame.now ≤ longest_frame }
@@ -76,6 +76,9 @@ impl WireLog {
 
     /// Returns the place of the first entry, at `from` or later, whose sender isn't `reader`, or `None` if there is no
     /// such entry.
+    /// - `first`: of the frames of other senders from `from` on, the frame at this place is the first. Those after this
+    ///   place are the others.
+    /// - `most`: a caller can add 1 to the place without overflow.
     pub(crate) fn next(&self, reader: usize, from: usize) -> Option<usize>
         ensures none { IsNone result ↔ (frames_of_others reader (drop from self.now) ≡ []) }
         ensures there { IfSome result (λ place. (from ≤ place) × (place < length self.now)) }
@@ -112,9 +115,11 @@ impl WireLog {
         Some(self.frame(place))
     }
 
-    /// Drops all entries before `first`, and the entries before `second` that `reader` sent. `first` must be at most
-    /// `second`, and `second` at most the number of entries. Let `first` be the least cursor, at the end `reader`, and
-    /// `second` the least cursor of the other ends. Then each end has read the dropped entries of other senders.
+    /// Drops all entries before `first`, and the entries before `second` that `reader` sent. The remaining entries move
+    /// to the front of the log, in order. `first` must be at most `second`, and `second` at most the number of entries.
+    ///
+    /// Let `first` be the least cursor, at the end `reader`, and `second` the least cursor of the other ends. Then each
+    /// end has read the dropped entries of other senders.
     pub(crate) fn close_up(&mut self, reader: usize, first: usize, second: usize)
         requires order { first ≤ second }
         requires there { second ≤ length self.old }

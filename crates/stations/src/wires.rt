@@ -71,8 +71,9 @@ fn log_of(ends: &[End], wire: usize) -> Option<usize>
     None
 }
 
-/// Returns the index of the log for the next end of a wire: the log of the wire's ends, or a new log if the wire has no
-/// ends. Each end must read a log of `logs`. Two ends must read the same log exactly if they are on the same wire.
+/// Returns the index of the log for the next end of a wire. This is the log that the wire's ends read, or a new log if
+/// the wire has no ends. Each end must read a log of `logs`. Two ends must read the same log exactly if they are on the
+/// same wire.
 ///
 /// # Errors
 ///
@@ -110,7 +111,7 @@ fn others_have_room(ends: &[End], sender: usize, wire: usize) -> bool
 }
 
 /// Returns the number of an end with the least cursor among the ends that read a log. The sender's end must read this
-/// log.
+/// log, so that there is such an end.
 fn slowest(ends: &[End], log: usize, sender: usize) -> usize
     requires there { IsReader log ends.now sender }
     ensures { IsSlowest (length ends.now) log ends.now result }
@@ -161,10 +162,13 @@ fn make_room(ends: &mut [End], wire_log: &mut WireLog, log: usize, sender: usize
         return;
     }
     let reader = slowest(ends, log, sender);
+    // The least cursor of the other ends, or the end of the log if no other end reads the log.
     let second = least_cursor(ends, log, reader, entries);
     // The frame of each remaining entry waits at the end `reader` or, if `reader` sent the frame, at an end with the
     // cursor `second`. At most `END_FRAMES` frames wait at each end, so fewer than `LOG_ENTRIES` entries remain.
     wire_log.close_up(reader, ends[reader].cursor, second);
+    // The cursor of `reader` becomes 0, because all entries before this cursor were dropped. Each other cursor is at
+    // least `second`, so all dropped entries were before it.
     move_cursors(ends, log, entries - wire_log.len());
 }
 
@@ -218,6 +222,7 @@ impl Wires {
     {
         self.ends.reserve(1)?;
         let log = log_for(&mut self.logs, self.ends.as_slice(), alloc, wire)?;
+        // The cursor is after the last entry, so no frame of an earlier entry waits at this end.
         let cursor = self.logs[log].len();
         // The call of `reserve` made room for the end.
         let _ = self.ends.push(End {
@@ -244,8 +249,8 @@ impl Wires {
         others_have_room(self.ends.as_slice(), sender, wire)
     }
 
-    /// Puts a frame onto its sender's wire. The frame then waits at each other end of this wire; each of these ends
-    /// must have room.
+    /// Puts a frame of at most 1,518 bytes onto its sender's wire. The frame then waits at each other end of this wire,
+    /// as the end's last frame. Each of these ends must have room. No other end changes.
     pub(crate) fn put(&mut self, sender: usize, frame: &[u8])
         requires there { sender < length self.old }
         requires room { (end : EndState) → slice_get self.old sender ≡ Some end → HaveRoom self.old sender end.wire }
@@ -286,6 +291,7 @@ impl Wires {
             return;
         };
         let end = &mut self.ends[host];
+        // Entries between the old cursor and `place` are frames that the host itself sent.
         end.cursor = place + 1;
         end.waiting -= 1;
     }

@@ -13,21 +13,21 @@ use Rattle.step_schedules.specs.declared.deviation.Place.{Place}
 
 -- the state of an agenda
 pub record AgendaState : Type 0 where
-  -- whether the default steps that no due action leaves out are taken; if not, all default steps are left out
-  pub plays : Bool
+  -- whether the run has a schedule; if not, all default steps are left out
+  pub has_schedule : Bool
   -- the place of the access or the request that came last, or 0.0 before the run
   pub last : Place
   -- all deviations of the schedule, also those that have been due
-  pub waiting : List WaitingValue
+  pub deviations : List WaitingValue
 
 -- the agenda of a schedule, before the run
 abbrev pub agenda_of : ScheduleValue → AgendaState
 agenda_of schedule =
-    record { plays = true; last = record { round = 0; access = 0 }; waiting = map waits schedule.deviations }
+    record { has_schedule = true; last = record { round = 0; access = 0 }; deviations = map waits schedule.deviations }
 
 -- the agenda of a run without a schedule, before the run: all default steps are left out
 abbrev pub idle_agenda : AgendaState
-idle_agenda = record { plays = false; last = record { round = 0; access = 0 }; waiting = [] }
+idle_agenda = record { has_schedule = false; last = record { round = 0; access = 0 }; deviations = [] }
 
 -- The access or request of this kind, and with this name, that comes next. The place of this event is the next place of this kind after the
 -- last place.
@@ -37,7 +37,7 @@ coming before name agenda = record { place = next_place before agenda.last; befo
 -- The agenda after an access or a request came. The place of this event is the last place. The event is counted for each deviation that
 -- matches it.
 abbrev pub agenda_after : EventValue → AgendaState → AgendaState
-agenda_after event agenda = record agenda { last = event.place; waiting = map (event_counted event) agenda.waiting }
+agenda_after event agenda = record agenda { last = event.place; deviations = map (event_counted event) agenda.deviations }
 
 -- whether an action leaves out the default step of the EEPROM
 abbrev pub holds_eeprom : Action → Bool
@@ -53,11 +53,11 @@ holds_phy _ = false
 abbrev pub held_by : List Action → Held
 held_by actions = record { eeprom = list_any holds_eeprom actions; phy = list_any holds_phy actions }
 
--- which default steps are left out before an event: those that these due actions leave out, or all if the agenda plays no schedule
+-- which default steps are left out before an event: those that these due actions leave out, or all if the run has no schedule
 abbrev pub default_steps_held : (due : List Action) → AgendaState → Held
-default_steps_held due agenda = if agenda.plays then held_by due else record { eeprom = true; phy = true }
+default_steps_held due agenda = if agenda.has_schedule then held_by due else record { eeprom = true; phy = true }
 
--- the default steps of `held`, and the default step that the action leaves out, if there is such an action
+-- which default steps are left out if also this action is due: those of `held`, and the one that a hold leaves out
 abbrev pub held_after : Held → Option Action → Held
 held_after held None = held
 held_after held (Some action) = record { eeprom = held.eeprom || holds_eeprom action; phy = held.phy || holds_phy action }

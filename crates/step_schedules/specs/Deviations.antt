@@ -41,9 +41,11 @@ action_named word =
 unfoldable pub hold_named : Text → Option Action
 hold_named word = value_in ((codes "eeprom", HoldEeprom) ∷ (codes "phy", HoldPhy) ∷ []) word
 
+-- whether a word is `hold`, which begins an action of two words
 abbrev pub is_hold : Text → Bool
 is_hold word = bytes_eq word (codes "hold")
 
+-- whether a word is `choose`, which begins an action of two words
 abbrev pub is_choose : Text → Bool
 is_choose word = bytes_eq word (codes "choose")
 
@@ -97,9 +99,11 @@ request_named word =
     ∷ (codes "choose", Choice) ∷ []
     ) word
 
+-- whether a byte is #
 abbrev pub is_hash : ℕ → Bool
 is_hash byte = byte == 0x23
 
+-- whether a word contains #
 abbrev pub has_hash : Text → Bool
 has_hash word = nat_lt (position_or_len is_hash word) (length word)
 
@@ -107,6 +111,7 @@ has_hash word = nat_lt (position_or_len is_hash word) (length word)
 abbrev pub name_in : Text → Text
 name_in word = if has_hash word then before_first is_hash word else word
 
+-- this number, or a fault if there is no number
 abbrev pub some_number : Option ℕ → Result (Option ℕ) Fault
 some_number (Some number) = Ok (Some number)
 some_number None = Err faults.Access
@@ -122,6 +127,7 @@ before_in words =
     else if length words == 2 then event_kind_named (word 0 words)
     else None
 
+-- this kind, or a fault if there is no kind
 abbrev pub before_or_fault : Option Before → Result Before Fault
 before_or_fault (Some before) = Ok before
 before_or_fault None = Err faults.Access
@@ -147,13 +153,13 @@ is_place_of Write place = nat_lt 0 place.access
 is_place_of Choice place = nat_lt 0 place.access
 
 -- the site at a place; a place at which no access or request of this kind can be is a fault
-abbrev pub place_before : Place → Before → Result Site Fault
-place_before place before = if is_place_of before place then Ok (site.Place place) else Err faults.RequestPlace
+abbrev pub site_at_place : Place → Before → Result Site Fault
+site_at_place place before = if is_place_of before place then Ok (site.Place place) else Err faults.RequestPlace
 
 -- The site of a deviation, from the place at the beginning of its line and the number after # in its last word. A line with both or with
--- neither is a fault, and so are the number 0 and a place at which no access or request of the kind `before` can be.
+-- neither is a fault. The number 0 is a fault, and so is a place at which no access or request of the kind `before` can be.
 abbrev pub site_in : Option Place → Option ℕ → Before → Result Site Fault
-site_in (Some place) None before = place_before place before
+site_in (Some place) None before = site_at_place place before
 site_in (Some place) (Some number) before = Err faults.PlaceAndNumber
 site_in None None before = Err faults.NoNumber
 site_in None (Some number) before = if nat_lt 0 number then Ok (site.Number number) else Err faults.NoNumber
@@ -163,7 +169,7 @@ abbrev pub is_choice : Action → Bool
 is_choice (Choose number) = true
 is_choice _ = false
 
--- whether an action may be before an access or a request of this kind
+-- whether an action may be before an access or a request of this kind: a chosen number only before `choose`, and nothing else there
 abbrev pub takes : Before → Action → Bool
 takes Choice action = is_choice action
 takes Request action = not (is_choice action)
@@ -197,6 +203,7 @@ deviation_value deviation = record {
   name = string_bytes deviation.name;
 }
 
+-- this action, or a fault if there is no action
 abbrev pub action_or_fault : Option Action → Result Action Fault
 action_or_fault (Some action) = Ok action
 action_or_fault None = Err faults.Action

@@ -47,7 +47,7 @@ next_place Choice place = record { round = place.round; access = next_count plac
 abbrev pub is_place : Place → Place → Bool
 is_place place other = place.round == other.round && place.access == other.access
 
--- whether a site is the place of an event, or a number; the number isn't compared
+-- whether a deviation at this site can match an event: a place must be the place of the event; a number isn't compared
 abbrev pub is_at : EventValue → Site → Bool
 is_at event (site.Place place) = is_place place event.place
 is_at event (site.Number number) = true
@@ -62,6 +62,6 @@ is_same_kind _ _ = false
 
 -- Whether a deviation matches an event: they have the same kind and name, and the same place if the deviation has a place. A number isn't
 -- compared.
-abbrev pub is_met_by : EventValue → DeviationValue → Bool
-is_met_by event deviation =
+abbrev pub is_matched_by : EventValue → DeviationValue → Bool
+is_matched_by event deviation =
     is_at event deviation.site && is_same_kind deviation.before event.before && bytes_eq deviation.name event.name

@@ -10,6 +10,7 @@ use Rattle.step_schedules.specs.declared.deviation.Place.{Place}
 abbrev pub digits_in : Text → Option ℕ
 digits_in text = if nat_lt 9 (length text) then None else number_in 10 32 text
 
+-- whether a byte is a dot
 abbrev pub is_dot : ℕ → Bool
 is_dot byte = byte == 0x2E
 

@@ -61,6 +61,7 @@ deviation_line deviation = deviation_text deviation ++ codes "\n"
 abbrev pub deviation_lines : List DeviationValue → Text
 deviation_lines deviations = flat_map deviation_line deviations
 
+-- an option, after a space
 abbrev pub option_text : Text → Text
 option_text option = codes " " ++ option
 

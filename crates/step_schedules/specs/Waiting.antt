@@ -1,20 +1,20 @@
 -- Deviations that wait for their events in a run, or have been due.
 use Rattle.std.specs.Prelude.{◌-◌, ◌==◌, ◌&&◌, ℕ, Bool, List, None, Option, Some, filter, if◌then◌else◌, map, nat_lt}
-use Rattle.step_schedules.specs.Events.{EventValue, is_met_by}
+use Rattle.step_schedules.specs.Events.{EventValue, is_matched_by}
 use Rattle.step_schedules.specs.declared.waiting.Waiting.{Waiting}
 use Rattle.step_schedules.specs.Deviations.{DeviationValue, deviation_value}
 use Rattle.step_schedules.specs.declared.deviation.Action.{Action}
 use Rattle.step_schedules.specs.declared.deviation.Site.{Site}
 use Rattle.step_schedules.specs.declared.deviation.Site.TheVariants as site
 
--- a deviation that waits, or was due
+-- a deviation of a schedule in a run: it waits for its access or request, or has been due
 pub record WaitingValue : Type 0 where
   -- the deviation
   pub deviation : DeviationValue
   -- The number of matching events that must still come. The deviation is due before the last of them. If the number is 0, it has been due.
   pub left : ℕ
 
--- a deviation that waits, as plain data
+-- a deviation in a run, as plain data
 abbrev pub waiting_value : Waiting → WaitingValue
 waiting_value waiting = record { deviation = deviation_value waiting.deviation; left = waiting.left }
 
@@ -29,14 +29,14 @@ waits deviation = record { deviation = deviation; left = left_at deviation.site 
 
 -- whether a deviation is due before an event
 abbrev pub is_due : EventValue → WaitingValue → Bool
-is_due event waiting = waiting.left == 1 && is_met_by event waiting.deviation
+is_due event waiting = waiting.left == 1 && is_matched_by event waiting.deviation
 
 -- a deviation after an event came; the event is counted if the deviation matches the event; `0 - 1` is 0
 abbrev pub event_counted : EventValue → WaitingValue → WaitingValue
 event_counted event waiting =
-    record waiting { left = if is_met_by event waiting.deviation then waiting.left - 1 else waiting.left }
+    record waiting { left = if is_matched_by event waiting.deviation then waiting.left - 1 else waiting.left }
 
--- the action of a deviation that waits
+-- the action of a deviation in a run
 abbrev pub action_of : WaitingValue → Action
 action_of waiting = waiting.deviation.action
 
@@ -52,6 +52,7 @@ due_before event waiting = map action_of (filter (is_due event) waiting)
 abbrev pub is_unmet : WaitingValue → Bool
 is_unmet waiting = nat_lt 0 waiting.left
 
+-- the deviation without its number of events
 abbrev pub deviation_of : WaitingValue → DeviationValue
 deviation_of waiting = waiting.deviation
 

@@ -5,12 +5,12 @@ use Rattle.text.specs.Words.{words_of as words_in_line, words_after, words_befor
 pub use Rattle.text.specs.Words.{Text, texts, word}
 
 -- whether a word doesn't begin a comment: its first byte isn't #, 0x23
-abbrev pub is_said : Text → Bool
-is_said word = not (slice_index word 0 == 0x23)
+abbrev pub is_no_comment : Text → Bool
+is_no_comment word = not (slice_index word 0 == 0x23)
 
 -- the words of a line, which spaces and tabs separate, up to a comment
 abbrev pub words_before_comment : Text → List Text
-words_before_comment line = take_while is_said (words_in_line line)
+words_before_comment line = take_while is_no_comment (words_in_line line)
 
 -- the words before the first word `before`
 abbrev pub action_words : List Text → List Text

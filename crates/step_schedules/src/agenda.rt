@@ -21,7 +21,7 @@ const START: Place = Place {
     access: 0,
 };
 
-/// Which default steps are left out before an access.
+/// Which default steps are left out (held) before an access.
 #[derive(Clone, Copy)]
 pub struct Held {
     /// Whether the default step of the EEPROM is left out.
@@ -36,9 +36,12 @@ pub struct Held {
 /// In contracts, the value is an `AgendaState`, plain data that `specs/Agendas.antt` defines.
 #[derive(Drop)]
 pub struct Agenda {
-    plays: bool,
+    /// Whether the run has a schedule. If not, all default steps are left out.
+    has_schedule: bool,
+    /// The place of the access or request that was counted last, or [`START`].
     last: Place,
-    waiting: Vec<Waiting>,
+    /// All deviations of the schedule, in order, also those that have been due.
+    deviations: Vec<Waiting>,
 }
 
 impl Model for Agenda {
@@ -49,9 +52,9 @@ impl Model for Agenda {
     ghost Value = { AgendaState };
 
     ghost view = { λ agenda. record {
-      plays = agenda.plays;
+      has_schedule = agenda.has_schedule;
       last = agenda.last;
-      waiting = map waiting_value agenda.waiting.items;
+      deviations = map waiting_value agenda.deviations.items;
     } };
 }
 
@@ -62,15 +65,16 @@ impl Clone for Agenda {
     #[tactic(auto, using(crate::proofs::Copies::copied_waiting))]
     fn clone(&self) -> Result<Agenda, AllocError> {
         Ok(Agenda {
-            plays: self.plays,
+            has_schedule: self.has_schedule,
             last: self.last,
-            waiting: self.waiting.clone()?,
+            deviations: self.deviations.clone()?,
         })
     }
 }
 
 impl Held {
-    /// Returns these default steps, and also the default step that the action leaves out, if the action is a hold.
+    /// Returns which default steps are left out if this action is also due: those of `self`, and the one that a hold
+    /// leaves out. No action, or an action other than a hold, leaves out no further step.
     fn and(self, action: Option<Action>) -> Held
         ensures { result ≡ spec.held_after self action }
     {
@@ -81,8 +85,8 @@ impl Held {
     }
 }
 
-/// Returns the number that an action chooses, or 0 if the action chooses no number. The same number is `chosen` for
-/// every list of actions that begins with this action.
+/// Returns the number that an action chooses, or 0 if the action chooses no number. The clause: this number is `chosen`
+/// of every list of actions that begins with this action, because later actions don't count.
 fn chosen_by(action: Action) -> u32
     ensures { (later : List Action) → result ≡ chosen (action ∷ later) }
 {
@@ -92,7 +96,7 @@ fn chosen_by(action: Action) -> u32
     }
 }
 
-/// Returns which default steps the actions that are due before an event leave out.
+/// Returns which default steps are left out by the actions that are due before an event.
 fn held_in(waiting: &[Waiting], event: &Event<'_>) -> Held
     ensures { result ≡ spec.held_by (due_before (event_value event.now) (map waiting_value waiting.now)) }
 {
@@ -106,8 +110,8 @@ fn held_in(waiting: &[Waiting], event: &Event<'_>) -> Held
     held
 }
 
-/// Returns the number that the first due action chooses. Returns 0 if no action is due, or if the first due action
-/// chooses no number.
+/// Returns the number that the first action due before an event chooses. Returns 0 if no action is due, or if this
+/// first action chooses no number.
 fn chosen_in(waiting: &[Waiting], event: &Event<'_>) -> u32
     ensures { result ≡ chosen (due_before (event_value event.now) (map waiting_value waiting.now)) }
 {
@@ -125,29 +129,30 @@ impl Agenda {
         ensures { IfOk result (λ agenda. agenda ≡ spec.agenda_of (schedule_value schedule)) }
     {
         Ok(Agenda {
-            plays: true,
+            has_schedule: true,
             last: START,
-            waiting: waiting_of(alloc, schedule.deviations)?,
+            deviations: waiting_of(alloc, schedule.deviations)?,
         })
     }
 
-    /// Returns the agenda of a run without a schedule, before the run. All default steps are left out.
+    /// Returns the agenda of a run without a schedule, before the run. No action is ever due, and all default steps are
+    /// left out.
     pub fn idle(alloc: Global) -> Agenda
         ensures { result ≡ spec.idle_agenda }
     {
         Agenda {
-            plays: false,
+            has_schedule: false,
             last: START,
-            waiting: Vec::new(alloc),
+            deviations: Vec::new(alloc),
         }
     }
 
-    /// Returns whether the default steps that no due action leaves out are taken. If not, all default steps are left
-    /// out.
-    pub fn plays(&self) -> bool
-        ensures { result ≡ self.now.plays }
+    /// Returns whether the run has a schedule. With a schedule, a default step is taken unless a due action leaves it
+    /// out. Without a schedule, all default steps are left out.
+    pub fn has_schedule(&self) -> bool
+        ensures { result ≡ self.now.has_schedule }
     {
-        self.plays
+        self.has_schedule
     }
 
     /// Returns the access or request of this kind, and with this name, that comes next. The place of this event is the
@@ -162,53 +167,55 @@ impl Agenda {
         }
     }
 
-    /// Returns all deviations of the schedule, also those that have been due.
-    pub fn waiting(&self) -> &[Waiting]
-        ensures { map waiting_value result.now ≡ self.now.waiting }
+    /// Returns all deviations of the schedule, in order, each with the number of matching events that must still come.
+    /// A deviation that has been due is also returned, although it no longer waits: its number is 0.
+    pub fn deviations(&self) -> &[Waiting]
+        ensures { map waiting_value result.now ≡ self.now.deviations }
     {
-        self.waiting.as_slice()
+        self.deviations.as_slice()
     }
 
-    /// Returns which default steps are left out before an event: those that due actions leave out, or all if the agenda
+    /// Returns which default steps are left out before an event: those that due actions leave out, or all if the run
     /// has no schedule.
     pub fn held(&self, event: &Event<'_>) -> Held
-        ensures { result ≡ spec.default_steps_held (due_before (event_value event.now) self.now.waiting) self.now }
+        ensures { result ≡ spec.default_steps_held (due_before (event_value event.now) self.now.deviations) self.now }
     {
-        if !self.plays {
+        if !self.has_schedule {
             return Held {
                 eeprom: true,
                 phy: true,
             };
         }
-        held_in(self.waiting.as_slice(), event)
+        held_in(self.deviations.as_slice(), event)
     }
 
-    /// Returns the number that the first due action chooses. Returns 0 if no action is due, or if the first due action
-    /// chooses no number.
+    /// Returns the number that the first action due before an event chooses. Returns 0 if no action is due, or if this
+    /// first action chooses no number.
     pub fn chosen(&self, event: &Event<'_>) -> u32
-        ensures { result ≡ chosen (due_before (event_value event.now) self.now.waiting) }
+        ensures { result ≡ chosen (due_before (event_value event.now) self.now.deviations) }
     {
-        chosen_in(self.waiting.as_slice(), event)
+        chosen_in(self.deviations.as_slice(), event)
     }
 
     /// Returns the lines of the deviations that haven't been due yet, in the order of the schedule. Fails only if
     /// memory was refused.
     pub fn unmet(&self, alloc: Global) -> Result<String, AllocError>
-        ensures { IfOk result (λ text. string_bytes text ≡ deviation_lines (unmet_in self.now.waiting)) }
+        ensures { IfOk result (λ text. string_bytes text ≡ deviation_lines (unmet_in self.now.deviations)) }
     {
+        // The text of a schedule without options consists of the lines of its deviations.
         let schedule = Schedule {
             options: None,
-            deviations: unmet_in(alloc, self.waiting.as_slice())?,
+            deviations: unmet_in(alloc, self.deviations.as_slice())?,
         };
         schedule.to_string(alloc)
     }
 
-    /// Counts an access or a request that comes now, for each deviation that matches it. The event's place becomes the
-    /// last place.
+    /// Counts an access or a request that comes now, for each deviation that matches it. A deviation that was due
+    /// before this event has then been due, and isn't due again. The event's place becomes the last place.
     pub fn count(&mut self, event: &Event<'_>)
         ensures { self.new ≡ spec.agenda_after (event_value event.now) self.old }
     {
         self.last = event.place;
-        count_all(self.waiting.as_mut_slice(), event);
+        count_all(self.deviations.as_mut_slice(), event);
     }
 }

@@ -15,7 +15,8 @@ pub struct Place {
 }
 
 impl Place {
-    /// Returns whether this place is before another place.
+    /// Returns whether this place is before another place: in an earlier round, or at an earlier access of the same
+    /// round.
     pub(crate) fn is_before(self, other: Place) -> bool
         ensures { result ≡ is_before self other }
     {

@@ -47,7 +47,7 @@ fn action_named(word: &str) -> Option<Action>
     value_of(&ACTIONS, word)
 }
 
-/// Returns the action that chooses the number that a word spells, or `None` if the word isn't a number.
+/// Returns the action that chooses the number in a word, or `None` if the word isn't a number.
 fn choice_of(word: &str) -> Option<Action>
     ensures { result ≡ spec.choice_in word.now }
 {
@@ -55,7 +55,7 @@ fn choice_of(word: &str) -> Option<Action>
     Some(Action::Choose(number))
 }
 
-/// Returns the action that two words name, or `None` if they name no action.
+/// Returns the action that two words name, such as `hold phy` or `choose 2`, or `None` if they name no action.
 #[tactic(auto, unfolding(crate::specs::Deviations::hold_named))]
 fn action_of_two(first: &str, second: &str) -> Option<Action>
     ensures { result ≡ spec.action_of_two first.now second.now }
@@ -82,14 +82,15 @@ fn action_of(words: &[&str]) -> Option<Action>
     None
 }
 
-/// Returns whether an action begins with this word.
+/// Returns whether an action of one or two words begins with this word.
 fn begins_action(word: &str) -> bool
     ensures { result ≡ spec.begins_action word.now }
 {
     action_named(word).is_some() || word == "hold" || word == "choose"
 }
 
-/// Reads the place in the first word of a line. Returns `None` if the word begins an action, and rejects other words.
+/// Reads the place in the first word of a line. Returns `None` if the word begins an action, because the line then has
+/// no place. Rejects other words.
 fn place_at(word: &str) -> Result<Option<Place>, Fault>
     ensures { result ≡ spec.place_at word.now }
 {
@@ -103,7 +104,8 @@ fn place_at(word: &str) -> Result<Option<Place>, Fault>
     }
 }
 
-/// Returns the words after the place, or all words if the line has no place. There must be at least one word.
+/// Returns the words of a line after its place, or all words if the line has no place. There must be at least one word,
+/// because a place is the first word.
 fn words_after<'a, 'b>(place: Option<Place>, words: &'b [&'a str]) -> &'b [&'a str]
     requires { 0 < length words.now }
     ensures { texts result.now ≡ spec.words_after_place place (texts words.entry.now) }
@@ -155,7 +157,8 @@ fn before_of(words: &[&str]) -> Option<Before>
     None
 }
 
-/// Returns what [`number_after`] returns, but also rejects an empty name.
+/// Reads the number after the first `#` of a line's last word, such as 3 in `ICR#3`. Returns `None` if the word has no
+/// `#`. Rejects other text after the `#`, and then an empty name before it.
 fn named_number(word: &str) -> Result<Option<u32>, Fault>
     ensures { result ≡ spec.named_number word.now }
 {
@@ -177,9 +180,10 @@ fn is_place_of(before: Before, place: Place) -> bool
     }
 }
 
-/// Returns the site at a place. Rejects a place at which no access or request of this kind can be.
-fn place_before(place: Place, before: Before) -> Result<Site, Fault>
-    ensures { result ≡ spec.place_before place before }
+/// Returns the site at a place, for an access or a request of the kind `before`. Rejects a place at which no access or
+/// request of this kind can be.
+fn site_at_place(place: Place, before: Before) -> Result<Site, Fault>
+    ensures { result ≡ spec.site_at_place place before }
 {
     if is_place_of(before, place) {
         Ok(Site::Place(place))
@@ -189,13 +193,13 @@ fn place_before(place: Place, before: Before) -> Result<Site, Fault>
 }
 
 /// Returns the site of a deviation, from the place at the beginning of its line and the number after `#` in its last
-/// word. Rejects a line with both or with neither, the number 0, and a place at which no access or request of the kind
-/// `before` can be.
+/// word. Rejects a line with both or with neither. Rejects the number 0, and a place at which no access or request of
+/// the kind `before` can be.
 fn site_of(place: Option<Place>, number: Option<u32>, before: Before) -> Result<Site, Fault>
     ensures { result ≡ spec.site_in place number before }
 {
     match (place, number) {
-        (Some(place), None) => place_before(place, before),
+        (Some(place), None) => site_at_place(place, before),
         (Some(_), Some(_)) => Err(Fault::PlaceAndNumber),
         (None, Some(number)) if number > 0 => Ok(Site::Number(number)),
         (None, _) => Err(Fault::NoNumber),
@@ -209,7 +213,8 @@ fn is_choice(action: Action) -> bool
     matches!(action, Action::Choose(_))
 }
 
-/// Returns whether an action may be before an access or a request of this kind.
+/// Returns whether an action may be before an access or a request of this kind. A chosen number is only for a request
+/// `choose`, and this request takes no other action.
 fn takes(before: Before, action: Action) -> bool
     ensures { result ≡ spec.takes before action }
 {
@@ -219,9 +224,9 @@ fn takes(before: Before, action: Action) -> bool
     }
 }
 
-/// Returns the site of a deviation, from the place and the last word of its line. Rejects what [`named_number`]
-/// rejects, then an action that may not be before an access or request of the kind `before`, and then what [`site_of`]
-/// rejects.
+/// Returns the site of a deviation, from the place of its line and the last word `word`. Rejects a word with an empty
+/// name or with other text than a number after `#`. Then rejects an action that may not be before an access or request
+/// of the kind `before`, and then what [`site_of`] rejects.
 fn site_at(place: Option<Place>, action: Action, before: Before, word: &str) -> Result<Site, Fault>
     ensures { result ≡ spec.site_at place action before word.now }
 {
@@ -232,7 +237,7 @@ fn site_at(place: Option<Place>, action: Action, before: Before, word: &str) -> 
     site_of(place, number, before)
 }
 
-/// A deviation without its name.
+/// A deviation without its name. The name is added last, because only its copy needs memory.
 #[derive(Clone, Copy)]
 struct Nameless {
     site: Site,
@@ -250,8 +255,8 @@ fn last_word<'a>(words: &[&'a str]) -> &'a str
     word_at(words, words.len() - 1)
 }
 
-/// Returns the deviation of a line, except its name, from the place, the action, and the words after `before`. Rejects
-/// words that name no access and no request, and then what [`site_at`] rejects.
+/// Returns the deviation of a line, except its name, from the place, the action, and the words `event` after `before`.
+/// Rejects words that name no access and no request, and then what [`site_at`] rejects.
 fn nameless_at(place: Option<Place>, action: Action, event: &[&str]) -> Result<Nameless, Fault>
     ensures { result ≡ spec.nameless_at place (texts event.now) action }
 {
@@ -266,8 +271,8 @@ fn nameless_at(place: Option<Place>, action: Action, event: &[&str]) -> Result<N
     })
 }
 
-/// Returns the deviation of a line, except its name, from the place and the words before and after `before`. Rejects
-/// words before `before` that name no action, and then what [`nameless_at`] rejects.
+/// Returns the deviation of a line, except its name, from the place and the words `action` and `event` before and after
+/// `before`. Rejects words `action` that name no action, and then what [`nameless_at`] rejects.
 fn nameless_of(place: Option<Place>, action: &[&str], event: &[&str]) -> Result<Nameless, Fault>
     ensures { result ≡ spec.nameless_in place (texts action.now) (texts event.now) }
 {
@@ -292,7 +297,8 @@ impl Nameless {
     }
 }
 
-/// Returns the deviation of a line, from its place and the words after the place. Rejects what [`nameless_of`] rejects.
+/// Returns the deviation of a line, from its place, if it has one, and the other words. Rejects what [`nameless_of`]
+/// rejects. Also fails if memory was refused.
 fn deviation_after(alloc: Global, place: Option<Place>, words: &[&str]) -> Result<Deviation, Stop>
     ensures { GivesView spec.deviation_value result (spec.deviation_after place (texts words.now)) }
 {
@@ -301,8 +307,9 @@ fn deviation_after(alloc: Global, place: Option<Place>, words: &[&str]) -> Resul
     nameless.with_name(alloc, name_of(last_word(event)))
 }
 
-/// Returns the deviation of a line, from its words. There must be at least one word. Rejects what [`place_at`] rejects,
-/// and then what [`nameless_of`] rejects.
+/// Returns the deviation of a line, from its words. There must be at least one word: the place, or the first word of
+/// the action. Rejects what [`place_at`] rejects, and then what [`nameless_of`] rejects. Also fails if memory was
+/// refused.
 pub(crate) fn deviation_of(alloc: Global, words: &[&str]) -> Result<Deviation, Stop>
     requires { 0 < length words.now }
     ensures { GivesView spec.deviation_value result (spec.deviation_in (texts words.now)) }

@@ -41,8 +41,8 @@ impl Clone for Past {
     }
 }
 
-/// Returns the place of the access or request of this kind that comes next after this place. Numbers end at the
-/// greatest `u32`.
+/// Returns the place of the access or request of this kind that comes next after this place. A request that begins a
+/// round is at access 0 of the next round. Numbers end at the greatest `u32`.
 pub(crate) fn next_place(place: Place, before: Before) -> Place
     ensures { result ≡ spec.next_place before place }
 {
@@ -75,7 +75,8 @@ impl Past {
 }
 
 impl Event<'_> {
-    /// Returns whether a site is the place of this event, or a number. The number isn't compared.
+    /// Returns whether a deviation at this site can match this event. A place must be the place of this event. A site
+    /// with a number can match every event: [`Waiting`](crate::Waiting) counts the events that match.
     fn is_at(&self, site: Site) -> bool
         ensures { result ≡ spec.is_at (spec.event_value self.now) site }
     {
@@ -86,9 +87,9 @@ impl Event<'_> {
     }
 
     /// Returns whether a deviation matches this event: they have the same kind and name, and the same place if the
-    /// deviation has a place. A number isn't compared.
-    pub(crate) fn is_met_by(&self, deviation: &Deviation) -> bool
-        ensures { result ≡ spec.is_met_by (spec.event_value self.now) (deviation_value deviation.now) }
+    /// deviation has a place. A number isn't compared: [`Waiting`](crate::Waiting) counts the events that match.
+    pub(crate) fn is_matched_by(&self, deviation: &Deviation) -> bool
+        ensures { result ≡ spec.is_matched_by (spec.event_value self.now) (deviation_value deviation.now) }
     {
         self.is_at(deviation.site)
             && deviation.before == self.before

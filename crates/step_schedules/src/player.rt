@@ -28,7 +28,9 @@ pub struct Player {
 /// In contracts, the value is a `RecorderState`, plain data that `specs/Players.antt` defines.
 #[derive(Drop)]
 pub struct Recorder {
+    /// The access or the request that began last.
     event: Past,
+    /// The actions that were played, the oldest first, each with the place and name of its access or request.
     played: Vec<Deviation>,
 }
 
@@ -60,7 +62,7 @@ impl Clone for Recorder {
 }
 
 impl Player {
-    /// Returns a player without a schedule, before the run.
+    /// Returns a player that only records, before the run: it has no schedule, so no action is ever due.
     pub fn recording(alloc: Global) -> Player
         ensures agenda { result.agenda ≡ idle_agenda }
         ensures recorder { result.recorder ≡ spec.new_recorder }
@@ -71,7 +73,7 @@ impl Player {
         }
     }
 
-    /// Returns a player of a schedule, before the run. Fails only if memory was refused.
+    /// Returns a player of a schedule, before the run. The player also records. Fails only if memory was refused.
     pub fn playing(alloc: Global, schedule: Schedule) -> Result<Player, AllocError>
         ensures agenda { IfOk result (λ player. player.agenda ≡ agenda_of (schedule_value schedule)) }
         ensures recorder { IfOk result (λ player. player.recorder ≡ spec.new_recorder) }
@@ -94,8 +96,8 @@ impl Recorder {
         }
     }
 
-    /// Begins an access or a request of this kind, with this place and name. Actions that are noted from now on were
-    /// played before this access or request.
+    /// Stores that an access or a request of this kind, with this place and name, begins. Actions that are noted from
+    /// now on were played before this access or request.
     pub fn begin(&mut self, place: Place, before: Before, name: String)
         ensures { self.new ≡ spec.begun
             (record { place = place; before = before; name = string_bytes name }) self.old }

@@ -38,13 +38,14 @@ impl Reader {
         }
     }
 
-    /// Stores the options of a line: the words after its first word, `options`. There must be at least one word.
+    /// Stores the options of a line: the words after its first word, `options`. So there must be at least one word.
     /// Rejects the line if an earlier line has words.
     fn set_options(&mut self, alloc: Global, words: &[&str]) -> Result<(), Stop>
         requires { 0 < length words.now }
         ensures { spec.Becomes result (spec.after_options (texts words.now) (spec.schedule_so_far self.old))
             (spec.schedule_so_far self.new) }
     {
+        // Each earlier line with words has set the options or added a deviation.
         if self.schedule.options.is_some() || !self.schedule.deviations.is_empty() {
             return Err(Stop::Fault(Fault::Options));
         }
@@ -53,7 +54,8 @@ impl Reader {
         Ok(())
     }
 
-    /// Appends a deviation. Rejects a deviation whose place is before the last place.
+    /// Appends a deviation. Rejects a deviation whose place is before the last place. A deviation without a place may
+    /// follow any other. Also fails if memory was refused.
     fn push(&mut self, deviation: Deviation) -> Result<(), Stop>
         ensures { spec.Becomes result (spec.after_deviation (deviation_value deviation) (spec.schedule_so_far self.old))
             (spec.schedule_so_far self.new) }
@@ -95,7 +97,7 @@ impl Reader {
         self.read_deviation(alloc, words)
     }
 
-    /// Reads a line up to its comment, as [`read_words`](Reader::read_words) does.
+    /// Reads the words of a line that are before its comment, as [`read_words`](Reader::read_words) does.
     fn read_line(&mut self, alloc: Global, line: &str) -> Result<(), Stop>
         ensures { spec.Becomes result (spec.after_schedule_line line.now (spec.schedule_so_far self.old))
             (spec.schedule_so_far self.new) }

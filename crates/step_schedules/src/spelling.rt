@@ -4,9 +4,9 @@ ghost use Rattle.std.specs.Prelude.{◌≡◌};
 ghost use Rattle.step_schedules.specs.Spellings as spec;
 
 use crate::deviation::Place;
-use text::digits_of;
+use text::number_in_radix;
 
-/// The maximum number of digits of a number. So each number fits in 32 bits.
+/// The maximum number of digits of a number (our choice).
 const MOST_DIGITS: usize = 9;
 
 const DECIMAL: u32 = 10;
@@ -18,10 +18,11 @@ pub(crate) fn number_of(text: &str) -> Option<u32>
     if text.len() > MOST_DIGITS {
         return None;
     }
-    u32::try_from(digits_of(text, DECIMAL)?).ok()
+    // Nine digits fit in a `u32`, so the conversion doesn't fail.
+    u32::try_from(number_in_radix(text, DECIMAL)?).ok()
 }
 
-/// Returns the place with these numbers. `0.0` isn't a place, because no request begins round 0.
+/// Returns the place with these numbers, or `None` for `0.0`, which isn't a place, because no request begins round 0.
 fn place_with(round: u32, access: u32) -> Option<Place>
     ensures { result ≡ spec.place_of_numbers round access }
 {

@@ -9,9 +9,10 @@ use crate::deviation::{Action, Deviation, Site};
 use crate::event::Event;
 use std::alloc::{AllocError, Global};
 
-/// A deviation that waits for its access or request, or has been due.
+/// A deviation of a schedule in a run: it waits for its access or request, or has been due and waits no longer.
 #[derive(Drop)]
 pub struct Waiting {
+    /// The deviation.
     pub(crate) deviation: Deviation,
     /// The number of matching events that must still come. The deviation is due before the last of them. If the number
     /// is 0, the deviation has been due.
@@ -35,6 +36,7 @@ impl Waiting {
         ensures { spec.waiting_value result ≡ spec.waits (deviation_value deviation) }
     {
         let left = match deviation.site {
+            // Due before the first event that the deviation matches.
             Site::Place(_) => 1,
             Site::Number(number) => number,
         };
@@ -45,7 +47,7 @@ impl Waiting {
     fn is_due(&self, event: &Event<'_>) -> bool
         ensures { result ≡ spec.is_due (event_value event.now) (spec.waiting_value self.now) }
     {
-        self.left == 1 && event.is_met_by(&self.deviation)
+        self.left == 1 && event.is_matched_by(&self.deviation)
     }
 
     /// Returns the action of the deviation, if the deviation is due before an event that comes now.
@@ -59,18 +61,18 @@ impl Waiting {
         }
     }
 
-    /// Counts an event that comes now, if the deviation matches it.
+    /// Counts an event that comes now, if the deviation matches it and hasn't been due yet.
     fn count(&mut self, event: &Event<'_>)
         ensures { spec.waiting_value self.new ≡
             spec.event_counted (event_value event.now) (spec.waiting_value self.old) }
     {
-        if event.is_met_by(&self.deviation) {
+        if event.is_matched_by(&self.deviation) {
             self.left = self.left.saturating_sub(1);
         }
     }
 }
 
-/// Counts an event that comes now, for each deviation that matches it.
+/// Counts an event that comes now, for each deviation that matches it and hasn't been due yet.
 pub(crate) fn count_all(waiting: &mut [Waiting], event: &Event<'_>)
     ensures { map spec.waiting_value waiting.new
         ≡ map (spec.event_counted (event_value event.now)) (map spec.waiting_value waiting.old) }
@@ -80,7 +82,7 @@ pub(crate) fn count_all(waiting: &mut [Waiting], event: &Event<'_>)
     }
 }
 
-/// Returns the deviations of a schedule as they wait at the start of the run.
+/// Returns the deviations of a schedule as they wait at the start of the run. Fails only if memory was refused.
 pub(crate) fn waiting_of(
     alloc: Global,
     deviations: Vec<Deviation>,
@@ -95,7 +97,7 @@ pub(crate) fn waiting_of(
     Ok(waiting)
 }
 
-/// Returns copies of the deviations that haven't been due yet.
+/// Returns copies of the deviations that haven't been due yet, in order. Fails only if memory was refused.
 pub(crate) fn unmet_in(alloc: Global, waiting: &[Waiting]) -> Result<Vec<Deviation>, AllocError>
     ensures { IfOk result (λ unmet. map deviation_value unmet.items
         ≡ spec.unmet_in (map spec.waiting_value waiting.now)) }

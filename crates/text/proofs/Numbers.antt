@@ -1,4 +1,4 @@
--- The number that digits spell, digit by digit, and the texts for which `digits_of` returns `None`.
+-- The number that digits spell, digit by digit, and the texts for which `number_in_radix` returns `None`.
 use Rattle.std.proofs.Common.{◌≡◌, ◌<◌, ◌^◌, ℕ, Bool, true, false, List, [], ◌∷◌, Option, Some, None, cond, length, refl, sym}
 use Rattle.std.proofs.Common.{ap, arith, get_or, subst, suc, take, zero, ◌∙◌, ◌+◌, ◌*◌, ◌≤◌}
 use Rattle.std.proofs.lemmas.Int.Digits.{digits_value_more}

@@ -4,20 +4,20 @@ ghost use Rattle.std.specs.Prelude.{ℕ, List, IfNone, IfSome};
 ghost use Rattle.std.specs.Option.{SomeIff};
 ghost use Rattle.text.specs.Addresses.{IsHexadecimalDigit, SpellsAddress, SpellsByte, hexadecimal_value};
 
+use crate::number::HEXADECIMAL;
+
 /// The number of bytes of an Ethernet address (IEEE 802.3 3.2.3).
 const ADDRESS_BYTES: usize = 6;
 
 /// The number of characters of an address's text: six pairs of digits and five colons.
 const ADDRESS_TEXT_LENGTH: usize = 17;
 
-/// The radix of hexadecimal numbers.
-const HEXADECIMAL: u32 = 16;
-
 /// Returns the value of a hexadecimal digit in either case. Returns `None` for any other character.
 #[tactic(auto, unfolding(crate::specs::Addresses::hexadecimal_value))]
 fn hexadecimal_digit(digit: u8) -> Option<u8>
     ensures { SomeIff result (IsHexadecimalDigit digit) (hexadecimal_value digit) }
 {
+    // The value is below 16, so the cast keeps it.
     let value = char::from(digit).to_digit(HEXADECIMAL)?;
     Some(value as u8)
 }
@@ -45,7 +45,7 @@ pub fn address_of(text: &str) -> Option<[u8; 6]>
     }
     let mut address = [0; ADDRESS_BYTES];
     for k in 0..ADDRESS_BYTES {
-        // A colon follows each pair except the last.
+        // Pair `k` begins at character `3 * k`. A colon follows each pair except the last.
         if k + 1 < ADDRESS_BYTES && text[3 * k + 2] != b':' {
             return None;
         }

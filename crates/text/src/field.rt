@@ -6,8 +6,10 @@ ghost use Rattle.text.specs.Fields.{labelled};
 use arrayvec::ArrayVec;
 use itoa::Buffer;
 
-/// Appends a label and a number in decimal. The label must have at most 20 bytes, and the line must have room for 60
-/// more: 20 for the label, and 40 for any number that itoa formats.
+/// Appends a label and a number in decimal.
+///
+/// The label must have at most 20 bytes. The line must have room for 60 more bytes: 20 for the label, and 40 for the
+/// digits, the maximum that itoa's contract states. So the `unwrap`s can't fail.
 pub fn push_field<const N: usize>(line: &mut ArrayVec<u8, N>, label: &[u8], number: u64)
     requires label { length label.now ≤ 20 }
     requires room { length line.old.items + 60 ≤ N }

@@ -11,6 +11,6 @@ mod words;
 pub use address::address_of;
 pub use field::push_field;
 pub use loops::turns;
-pub use number::{digits_of, number_of};
+pub use number::{DECIMAL, HEXADECIMAL, number_in_radix, number_of};
 pub use table::value_of;
 pub use words::{split_at_word, word_at, words_in};

@@ -3,15 +3,17 @@
 ghost use Rattle.std.specs.Prelude.{◌≡◌, ◌≤◌};
 ghost use Rattle.text.specs.Numbers.{number_in, number_spelled};
 
-const DECIMAL: u32 = 10;
+/// The radix of decimal numbers.
+pub const DECIMAL: u32 = 10;
 
-const HEXADECIMAL: u32 = 16;
+/// The radix of hexadecimal numbers.
+pub const HEXADECIMAL: u32 = 16;
 
 /// Returns the number that a text spells in this radix, if the text is one or more digits and the number is below 2^64.
 /// Otherwise returns `None`. Digits above 9 are letters of either case. Leading zeros are allowed, a sign isn't. The
 /// radix must be from 2 to 36.
 #[tactic(auto, using(crate::proofs::Numbers::bad_digit, crate::proofs::Numbers::overflows))]
-pub fn digits_of(text: &str, radix: u32) -> Option<u64>
+pub fn number_in_radix(text: &str, radix: u32) -> Option<u64>
     requires low { 2 ≤ radix }
     requires high { radix ≤ 36 }
     ensures { result ≡ number_in radix 64 text.now }
@@ -35,10 +37,10 @@ pub fn number_of(text: &str) -> Option<u64>
     // `x` is no decimal digit, so only a hexadecimal number contains one.
     match text.split_once('x') {
         Some((front, digits)) => if front == "0" {
-            digits_of(digits, HEXADECIMAL)
+            number_in_radix(digits, HEXADECIMAL)
         } else {
             None
         },
-        None => digits_of(text, DECIMAL),
+        None => number_in_radix(text, DECIMAL),
     }
 }

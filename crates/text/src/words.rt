@@ -33,8 +33,8 @@ fn place_of(words: &[&str], mark: &str) -> Option<usize>
     words.iter().position(|word| *word == mark)
 }
 
-/// Returns the words before the first word that is `mark`, and the words after it. If no word is `mark`, the first
-/// slice contains all words, and the second is empty.
+/// Returns the words before the first word that is `mark`, such as `/`, and the words after this word. If no word is
+/// `mark`, the first slice contains all words, and the second is empty.
 pub fn split_at_word<'a, 'b>(words: &'b [&'a str], mark: &str) -> (&'b [&'a str], &'b [&'a str])
     ensures before { texts result.0.now ≡ words_before mark.now (texts words.entry.now) }
     ensures after { texts result.1.now ≡ words_after mark.now (texts words.entry.now) }

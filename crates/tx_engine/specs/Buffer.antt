@@ -9,7 +9,7 @@ use Rattle.tx_engine.specs.declared.engine.TxEngine.TheInside.{Inside}
 abbrev pub side_by_side : List (List ℕ) → List Report → List Queued
 side_by_side [] reports = []
 side_by_side (frame ∷ frames) [] = []
-side_by_side (frame ∷ frames) (report ∷ reports) = record { frame = frame; descriptor = report.descriptor; report = report.wanted }
+side_by_side (frame ∷ frames) (report ∷ reports) = record { frame = frame; descriptor = report.descriptor; rs = report.rs }
     ∷ side_by_side frames reports
 
 -- The plain data of a transmit engine with these fields.

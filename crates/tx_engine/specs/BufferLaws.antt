@@ -24,12 +24,12 @@ length-side_by_side (frame ∷ frames) (report ∷ reports) same =
 -- If a frame and its report are added at the end of both lists, they are the last pair.
 pub side_by_side-push : (frames : List (List ℕ)) (reports : List Report) (frame : List ℕ) (report : Report) → length frames ≡ length reports
     → side_by_side (frames ++ frame ∷ []) (reports ++ report ∷ [])
-    ≡ side_by_side frames reports ++ record { frame = frame; descriptor = report.descriptor; report = report.wanted } ∷ []
+    ≡ side_by_side frames reports ++ record { frame = frame; descriptor = report.descriptor; rs = report.rs } ∷ []
 side_by_side-push [] [] frame report same = refl
 side_by_side-push [] (other ∷ reports) frame report same = absurd (omega arith)
 side_by_side-push (first ∷ frames) [] frame report same = absurd (omega arith)
 side_by_side-push (first ∷ frames) (other ∷ reports) frame report same =
-    let q : Queued = record { frame = first; descriptor = other.descriptor; report = other.wanted } in
+    let q : Queued = record { frame = first; descriptor = other.descriptor; rs = other.rs } in
     ap (λ (rest : List Queued). q ∷ rest) (side_by_side-push frames reports frame report (omega arith))
 
 -- There is no pair if and only if there is no frame.
@@ -89,9 +89,9 @@ pub pushed-view : (engine : Inside) (frame : List ℕ) (report : Report) (frames
     → frames ≡ record engine.frames { frames = engine.frames.frames ++ frame ∷ [] }
     → reports ≡ buffer (keep_last engine.reports.capacity (engine.reports.items ++ report ∷ [])) engine.reports.capacity
     → transmitter_of (record { frames = frames; reports = reports; running = engine.running })
-    ≡ record seen { buffer = seen.buffer ++ record { frame = frame; descriptor = report.descriptor; report = report.wanted } ∷ [] }
+    ≡ record seen { buffer = seen.buffer ++ record { frame = frame; descriptor = report.descriptor; rs = report.rs } ∷ [] }
 pushed-view engine frame report frames reports seen view whole room pushed_frame pushed_report =
-    let last : Queued = record { frame = frame; descriptor = report.descriptor; report = report.wanted } in
+    let last : Queued = record { frame = frame; descriptor = report.descriptor; rs = report.rs } in
     let one_more : frames.frames ≡ engine.frames.frames ++ frame ∷ [] = ap (λ (f : Frames). f.frames) pushed_frame in
     let one_report : reports.items ≡ engine.reports.items ++ report ∷ [] = pushed-reports engine report reports whole room pushed_report in
     let grown : side_by_side frames.frames reports.items ≡ side_by_side engine.frames.frames engine.reports.items ++ last ∷ [] =

@@ -36,7 +36,7 @@ abbrev pub fetched : Bool → List ℕ → ℕ → Queued
 fetched pad memory address = record {
   frame = frame_at pad memory address;
   descriptor = address;
-  report = is_set (command_bits (transmit_descriptor_at memory address).command) tx_rs;
+  rs = is_set (command_bits (transmit_descriptor_at memory address).command) tx_rs;
 }
 
 -- The engine has nothing to take: TCTL.EN is 0, a fault has stopped the engine, its buffer contains four frames (our choice), or head

@@ -8,11 +8,11 @@ use Rattle.tx_engine.specs.declared.report.Report.{Report}
 
 -- What a report feeds: the address of a frame's descriptor, and RS.
 abbrev pub report_writes : Report → HashWrites
-report_writes report = u64 report.descriptor ++ bool report.wanted
+report_writes report = u64 report.descriptor ++ bool report.rs
 
 -- What a frame in the packet buffer feeds besides its bytes: the address of its descriptor, and RS.
 abbrev pub queued_writes : Queued → HashWrites
-queued_writes queued = u64 queued.descriptor ++ bool queued.report
+queued_writes queued = u64 queued.descriptor ++ bool queued.rs
 
 -- What the transmit engine feeds: whether it is stopped, the number of frames in its buffer, these frames, and then each descriptor's
 -- address and RS.

@@ -40,15 +40,15 @@ zeros-as_sent false frame least same =
     ap (λ (n : ℕ). frame ++ replicate n 0) none ∙ append-nil frame
 
 -- The entry that `push` appends for a descriptor, with `least` 60 if the adapter pads and 0 otherwise, is the entry that `fetched` defines.
-pub pushed-fetched : (pad : Bool) (memory bytes : List ℕ) (address descriptor least : ℕ) (reports : Bool)
-    → bytes ≡ named_by memory (transmit_descriptor_at memory address) → descriptor ≡ address → reports ≡ (fetched pad memory address).report
+pub pushed-fetched : (pad : Bool) (memory bytes : List ℕ) (address descriptor least : ℕ) (rs : Bool)
+    → bytes ≡ named_by memory (transmit_descriptor_at memory address) → descriptor ≡ address → rs ≡ (fetched pad memory address).rs
     → least ≡ cond pad 60 0
-    → record { frame = bytes ++ replicate (least - length bytes) 0; descriptor = descriptor; report = reports } ≡ fetched pad memory address
-pushed-fetched pad memory bytes address descriptor least reports same_bytes same_address same_reports same_least =
+    → record { frame = bytes ++ replicate (least - length bytes) 0; descriptor = descriptor; rs = rs } ≡ fetched pad memory address
+pushed-fetched pad memory bytes address descriptor least rs same_bytes same_address same_rs same_least =
     let same_frame : bytes ++ replicate (least - length bytes) 0 ≡ frame_at pad memory address = zeros-as_sent pad bytes least same_least
     ∙ ap (as_sent pad) same_bytes in
-    ap (λ (frame : List ℕ). let queued : Queued = record { frame = frame; descriptor = descriptor; report = reports } in queued) same_frame
-    ∙ ap (λ (place : ℕ). let queued : Queued = record { frame = frame_at pad memory address; descriptor = place; report = reports }
+    ap (λ (frame : List ℕ). let queued : Queued = record { frame = frame; descriptor = descriptor; rs = rs } in queued) same_frame
+    ∙ ap (λ (place : ℕ). let queued : Queued = record { frame = frame_at pad memory address; descriptor = place; rs = rs }
     in queued) same_address
-    ∙ ap (λ (asks : Bool). let queued : Queued = record { frame = frame_at pad memory address; descriptor = address; report = asks }
-    in queued) same_reports
+    ∙ ap (λ (bit : Bool). let queued : Queued = record { frame = frame_at pad memory address; descriptor = address; rs = bit }
+    in queued) same_rs

@@ -107,10 +107,10 @@ pub to_send-written_back : (memory : List ℕ) (ring : Ring) (pad : Bool) (buffe
     → to_send (written_back memory queued) ring pad buffer ≡ to_send memory ring pad buffer
 to_send-written_back memory ring pad buffer queued away =
     let lies_there = nat_lt (status_place queued) (length memory) in
-    to_send-either (queued.report && lies_there) memory (with_bytes memory (status_place queued) (1 ∷ [])) ring pad buffer
+    to_send-either (queued.rs && lies_there) memory (with_bytes memory (status_place queued) (1 ∷ [])) ring pad buffer
     (λ written.
     let below : status_place queued < length memory = ltb-true (status_place queued) (length memory)
-    (and_parts queued.report lies_there written).1 in
+    (and_parts queued.rs lies_there written).1 in
     to_send-away memory ring pad buffer (status_place queued) 1 (omega arith) away)
 
 -- After the oldest frame of the buffer is put on the wire, the frames to be sent are the earlier ones without the first. The status byte

@@ -45,7 +45,7 @@ status_place queued = queued.descriptor + 12
 -- Memory after a frame is put onto the wire: if its descriptor asks for a report, the status byte has only DD set (3.3.3.2). If memory ends
 -- before this byte, nothing is written.
 abbrev pub written_back : List ℕ → Queued → List ℕ
-written_back memory queued = if queued.report && nat_lt (status_place queued) (length memory) then with_bytes memory (status_place queued)
+written_back memory queued = if queued.rs && nat_lt (status_place queued) (length memory) then with_bytes memory (status_place queued)
     (alone tx_dd ∷ []) else memory
 
 -- Two memories have the same size, and differ at most in the byte at the address `place`.

@@ -8,7 +8,7 @@ pub record Queued : Type 0 where
   -- The address at which the frame's descriptor was read.
   pub descriptor : ℕ
   -- Whether the descriptor asks for a report (RS).
-  pub report : Bool
+  pub rs : Bool
 
 -- The state of the transmit engine.
 pub record Transmitter : Type 0 where

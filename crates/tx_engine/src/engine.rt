@@ -105,7 +105,7 @@ impl TxEngine {
         self.len() == PACKET_BUFFER_FRAMES
     }
 
-    /// Returns whether a fault has stopped the step that takes frames.
+    /// Returns whether a fault has stopped the step that takes frames, [`take`](crate::take).
     pub fn is_stopped(&self) -> bool
         ensures { result ≡ self.now.stopped }
     {
@@ -163,7 +163,7 @@ impl TxEngine {
           buffer = self.old.buffer ++ record {
             frame = named.entry.bytes.now ++ replicate (least - length named.entry.bytes.now) 0;
             descriptor = named.entry.descriptor;
-            report = named.entry.reports;
+            rs = named.entry.rs;
           } ∷ [];
         } }
     {
@@ -171,18 +171,18 @@ impl TxEngine {
         // There is room, so the call drops no older report.
         let _ = self.reports.push_back(Report {
             descriptor: named.descriptor,
-            wanted: named.reports,
+            rs: named.rs,
         });
     }
 
-    /// Removes the oldest frame. Returns the address and the RS bit of the frame's descriptor, or `None` exactly if
-    /// the buffer is empty.
+    /// Removes the oldest frame. Returns the address and the RS bit of the frame's descriptor. Returns `None` exactly
+    /// if the buffer is empty, and then nothing changes.
     pub(crate) fn pop(&mut self) -> Option<Report>
         ensures none { IsNone result ↔ (self.old.buffer ≡ []) }
         ensures rest { self.new ≡ record self.old { buffer = drop 1 self.old.buffer } }
         ensures descriptor { IfSome result
             (λ report. IfFront self.old.buffer (λ queued. queued.descriptor ≡ report.descriptor)) }
-        ensures wanted { IfSome result (λ report. IfFront self.old.buffer (λ queued. queued.report ≡ report.wanted)) }
+        ensures rs { IfSome result (λ report. IfFront self.old.buffer (λ queued. queued.rs ≡ report.rs)) }
     {
         self.frames.pop();
         self.reports.pop_front()
@@ -195,6 +195,6 @@ fn feed_reports<H: Hasher>(reports: &[Report], hasher: &mut H)
 {
     for report in reports {
         hasher.write_u64(report.descriptor);
-        report.wanted.hash(hasher);
+        report.rs.hash(hasher);
     }
 }

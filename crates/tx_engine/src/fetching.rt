@@ -17,7 +17,7 @@ pub struct Named<'a> {
     /// The address at which the descriptor was read.
     pub descriptor: u64,
     /// Whether the descriptor asks for a report (RS).
-    pub reports: bool,
+    pub rs: bool,
 }
 
 /// Returns whether a descriptor with this command contains the end of its packet: EOP is set.
@@ -74,7 +74,8 @@ fn bytes_of<'a>(desc: &TxDesc, memory: &'a HostMemory) -> Option<&'a [u8]>
 }
 
 /// Returns the frame that the descriptor at the head points to, with this descriptor's address and RS bit. Returns
-/// `None` if and only if the frame can't be taken: [`take`](crate::take) lists the conditions of a `Fault`.
+/// `None` if and only if head or tail isn't the index of a slot, or the descriptor isn't inside memory or can't be
+/// transmitted (`bytes_of`). Whether the descriptor is offered isn't tested: [`take`](crate::take) tests this before.
 pub fn fetch<'a>(ring: &Ring, memory: &'a HostMemory) -> Option<Named<'a>>
     ensures fetchable { IsSome result ↔ IsFetchable memory.now ring.now }
     ensures bytes { IfSome result (λ named. named.bytes.now
@@ -83,7 +84,7 @@ pub fn fetch<'a>(ring: &Ring, memory: &'a HostMemory) -> Option<Named<'a>>
     // The status byte, byte 12, is inside memory, so its address fits into 64 bits.
     ensures status_fits { IfSome result (λ named. named.descriptor + 12 < 2 ^ 64) }
     ensures length { IfSome result (λ named. length named.bytes.now ≤ 1518) }
-    ensures reports { IfSome result (λ named. named.reports
+    ensures rs { IfSome result (λ named. named.rs
         ≡ is_set (command_bits (transmit_descriptor_at memory.now (address_of ring.now ring.now.head)).command) tx_rs) }
 {
     if !ring.has_valid_indices() {
@@ -94,6 +95,6 @@ pub fn fetch<'a>(ring: &Ring, memory: &'a HostMemory) -> Option<Named<'a>>
     Some(Named {
         bytes,
         descriptor,
-        reports: asks_report(desc.command),
+        rs: asks_report(desc.command),
     })
 }

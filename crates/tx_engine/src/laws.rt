@@ -7,7 +7,7 @@ ghost use Rattle.tx_engine.specs.ToSend.{OfferingAddsFrames};
 ///   buffer. The list doesn't change.
 /// - `put`: a put step removes the first frame of the list, which is the oldest one in the buffer.
 /// - `others`: a write inside memory doesn't change the list if it overlaps neither the first ten bytes of these
-///   descriptors nor their frames.
+///   descriptors (a frame's address and length) nor their frames.
 /// - `offer`: if the tail advances by one slot, the frame of the slot at the old tail is added at the end of the list.
 ///   Head and tail must be indices of slots, and the tail must not advance to the head.
 ///

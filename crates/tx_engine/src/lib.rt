@@ -19,4 +19,4 @@ pub use engine::{PACKET_BUFFER_FRAMES, TxEngine};
 pub use laws::frames_to_be_sent;
 pub use putting::put;
 pub use queued::append_queued;
-pub use taking::{is_idle, take};
+pub use taking::{has_nothing_to_take, take};

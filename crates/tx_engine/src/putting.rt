@@ -31,9 +31,10 @@ pub fn put(engine: &mut TxEngine, memory: &mut HostMemory, wire_free: bool) -> P
     ensures untouched { (result ≡ Put.Nothing) → (engine.new ≡ engine.old) × (memory.new ≡ memory.old) }
     ensures waits { (result ≡ Put.WireFull) → (engine.new ≡ engine.old) × (memory.new ≡ memory.old) }
     ensures gone { IfPut result (λ _. engine.new ≡ record engine.old { buffer = drop 1 engine.old.buffer }) }
-    ensures reported { IfPut result (λ reported. IfFront engine.old.buffer (λ queued. reported ≡ queued.report)) }
+    ensures reported { IfPut result (λ reported. IfFront engine.old.buffer (λ queued. reported ≡ queued.rs)) }
     ensures written { IfPut result
         (λ _. IfFront engine.old.buffer (λ queued. memory.new ≡ written_back memory.old queued)) }
+    // Whatever the answer, memory changes at most in the status byte of the oldest frame's descriptor.
     ensures one_byte { IfFront engine.old.buffer
         (λ queued. DiffersAtMostAt (status_place queued) memory.old memory.new) }
 
@@ -56,11 +57,11 @@ pub fn put(engine: &mut TxEngine, memory: &mut HostMemory, wire_free: bool) -> P
     let Some(report) = engine.pop() else {
         return Put::Nothing;
     };
-    if report.wanted {
+    if report.rs {
         // The address fits into 64 bits (`Report`). If memory ends before the status byte, nothing is written.
         let _ = memory.store(report.descriptor + STATUS_PLACE, &[TxStatus::DD.bits()]);
     }
     Put::Put {
-        reported: report.wanted,
+        reported: report.rs,
     }
 }

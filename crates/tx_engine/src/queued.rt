@@ -49,7 +49,7 @@ fn frame_as_sent(bytes: &[u8], pad: bool) -> Frame
 
 /// Appends a frame of at most 1,518 bytes, as it is put onto the wire, padded if `pad` is true. The list must have room
 /// for the frame.
-fn append_padded(bytes: &[u8], pad: bool, frames: &mut Vec<Frame>)
+fn append_as_sent(bytes: &[u8], pad: bool, frames: &mut Vec<Frame>)
     requires short { length bytes.now ≤ 1518 }
     requires room { length frames.old.items < vec_capacity frames.old }
     ensures frames { frames.new.items ≡ frames.old.items ++ as_sent pad bytes.now ∷ [] }
@@ -105,14 +105,15 @@ pub fn append_queued(memory: &HostMemory, ring: &Ring, pad: bool, frames: &mut V
         return;
     }
     let mut place = ring.head;
-    // The number of offered descriptors that are still to be read.
+    // The number of offered descriptors that are still to be read. `Ring::distance` would require that the tail is the
+    // index of a slot.
     let mut left = (u32::from(ring.tail) + count - u32::from(ring.head)) % count;
     while left > 0 {
         // The result is never `None`.
         let Some(bytes) = queued_bytes(memory, ring, place) else {
             return;
         };
-        append_padded(bytes, pad, frames);
+        append_as_sent(bytes, pad, frames);
         place = ring.next(place);
         left -= 1;
     }

@@ -10,9 +10,10 @@ use descriptors::{Ring, SHORTEST_LEGAL};
 use dma_memory::HostMemory;
 use registers::Tctl;
 
-/// Returns whether [`take`] has nothing to do, so that it would return `Nothing`.
-pub fn is_idle(engine: &TxEngine, ring: &Ring, control: Tctl) -> bool
-    ensures idle { IsTrue result ↔ HasNoFrameToTake control.0 engine.now ring.now }
+/// Returns whether [`take`] has nothing to do, so that it would return `Nothing`. If not, the packet buffer has room
+/// for a frame (clause `room`).
+pub fn has_nothing_to_take(engine: &TxEngine, ring: &Ring, control: Tctl) -> bool
+    ensures nothing { IsTrue result ↔ HasNoFrameToTake control.0 engine.now ring.now }
     ensures room { (result ≡ false) → length engine.now.buffer < 4 }
 {
     !control.is_enabled() || engine.is_stopped() || engine.is_full() || ring.head == ring.tail
@@ -44,7 +45,7 @@ pub fn take(engine: &mut TxEngine, ring: &mut Ring, control: Tctl, memory: &Host
     ensures to_send { to_send memory.now ring.new (pads control.0) engine.new.buffer
         ≡ to_send memory.now ring.old (pads control.0) engine.old.buffer }
 {
-    if is_idle(engine, ring, control) {
+    if has_nothing_to_take(engine, ring, control) {
         return Take::Nothing;
     }
     let Some(named) = fetch(ring, memory) else {

@@ -23,7 +23,7 @@ use Rattle.bus.proofs.Lists.{all-left, all-right}
 use Rattle.bus.proofs.Settings.{writes-append}
 use Rattle.bus.specs.declared.event.Access.{Access}
 use Rattle.bus.specs.declared.bus.Bus.{Ghosts}
-use Rattle.bring_up.specs.Configuration.{CanBeHad, configured_counts}
+use Rattle.bring_up.specs.Configuration.{IsValidIn, configured_counts}
 use Rattle.bring_up.specs.ConfiguredAdapters.{IsConfigured, names_vlans}
 use Rattle.bring_up.specs.DriverSteps.{accesses_of}
 use Rattle.bring_up.specs.SettingSteps.{RecordsNone}
@@ -67,7 +67,7 @@ station_on wire world = record { world = world; wire = wire; backlog = [] }
 valid : (ring : Ring) (count tail : ℕ) → count_of ring ≡ count → ring.head < count → ring.tail ≡ tail → tail < count → HasValidIndices ring
 valid ring count tail slots head is below = record { head = omega (arith, slots, head); tail = omega (arith, slots, is, below) }
 
-can-answer : (plan : HostPlan) (size : ℕ) (d : DriverState) (world : World) → CanBeHad plan.config size
+can-answer : (plan : HostPlan) (size : ℕ) (d : DriverState) (world : World) → IsValidIn plan.config size
     → d.layout ≡ configured_counts plan.config
     → Ready d world → IsConfigured plan.config (address_bytes plan.image) (settings_of world.adapter) → CanAnswer world.adapter
 can-answer plan size d world had counts ready configured =
@@ -91,8 +91,7 @@ can-answer plan size d world had counts ready configured =
 -- What is known before and after the initialization of a host.
 pub record IsBroughtUp (plan : HostPlan) (old new : LivelyBus) (host : HostState) : Type 0 where
   pub size : ℕ
-  pub had : CanBeHad plan.config size
-  pub address : IsAddress (address_bytes plan.image)
+  pub had : IsValidIn plan.config size
   pub adapter : (machine_world old).adapter ≡ new_adapter plan.image plan.link
   pub memory : length (machine_world new).memory ≡ size_of (configured_counts plan.config)
   pub host_is : host ≡ new_host host.driver plan.sockets.items
@@ -182,6 +181,7 @@ comes-up plan old new host wire is =
     let configured : IsConfigured plan.config (address_bytes plan.image) (settings_of (machine_world new).adapter) =
     subst (λ (words : List ℕ). IsConfigured plan.config (address_bytes words) (settings_of (machine_world new).adapter)) image
     init.adapter.configured in
+    let address = subst (λ (words : List ℕ). IsAddress (address_bytes words)) image init.adapter.address in
     record {
       ready = record {
         ready = is.ready;
@@ -195,7 +195,7 @@ comes-up plan old new host wire is =
         memory = is.memory;
         kinds = ap (λ (h : HostState). h.kinds) is.host_is;
         allocation = configured.allocation;
-        filter = plans-filter plan (settings_of (machine_world new).adapter) is.address configured;
+        filter = plans-filter plan (settings_of (machine_world new).adapter) address configured;
         groups = is.joined;
         set_up = init.set_up;
         table = init.table;

@@ -21,18 +21,18 @@ use Rattle.host_calls.specs.Networks.{IsHost, NetworkState}
 use Rattle.wire.specs.RunObservers.{TellsReply, ending}
 use Rattle.wire.specs.Runs.{AnswersCall, AnswersReset, HostsGo, IsCallReply, IsTickReply, reset_answer, call_happenings, said_in_reset}
 use Rattle.wire.specs.declared.events.Call.{Call}
-use Rattle.wire.specs.declared.events.Part.{Part}
-use Rattle.wire.specs.declared.events.Part.TheVariants as parts
+use Rattle.wire.specs.declared.events.EventForm.{EventForm}
+use Rattle.wire.specs.declared.events.EventForm.TheVariants as forms
 
 -- the value of a `Call` in contracts
 abbrev pub call_in : Call → EventCall
 call_in call = record { host = call.host; request = call_request call.call; ticks = call.ticks.now }
 
--- the value of a `Part` in contracts
-abbrev pub part_in : Part → EventKind
-part_in (parts.Call call) = ByCall (call_in call)
-part_in (parts.Reset reset) = ByReset reset.host reset.ticks.now
-part_in (parts.Tick tick) = Alone tick
+-- the value of an `EventForm` in contracts
+abbrev pub kind_in : EventForm → EventKind
+kind_in (forms.Call call) = ByCall (call_in call)
+kind_in (forms.Reset reset) = ByReset reset.host reset.ticks.now
+kind_in (forms.Tick tick) = Alone tick
 
 -- The call `call` was made, with the reply `reply`. If its host doesn't exist, only the ticks of the call were played.
 -- The fields are those of `EventRuns`: `go` states the equations, `replied` what the reply states about the steps, and

@@ -92,6 +92,7 @@ impl RunObserver for Collector {
         if let Some(mut given) = self.frame.take() {
             given.fill(frame);
             let outcomes = std::mem::replace(&mut self.outcomes, Outcomes::new(self.alloc));
+            // `reserve` also made room for the reply.
             self.replies.push_reserved(Reply {
                 answer: answer.with_frame(given),
                 accesses,

@@ -33,24 +33,26 @@ pub struct Counts {
 impl Lan {
     /// Returns the counts of a host, or `None` if there is no such host. No count is cleared.
     ///
-    /// - `stands`: `HostStands` holds for each host of the network.
+    /// - `stands`: the invariant of `Lan`, for the proofs of callers.
     pub fn counts(&self, host: usize) -> Option<Counts>
         ensures none { IsNone result ↔ (length self.now.hosts ≤ host) }
         ensures counts { (state : HostState) → IsHost self.now host state
             → IfSome result (AreCounts state (world_at self.now.stations host)) }
         ensures stands { NetworkStands self.now }
     {
-        let own = self.network.host(host)?;
-        let (sum, read_exactly) = own.missed();
+        let found = self.network.host(host)?;
+        let (sum, read_exactly) = found.missed();
         let registers = self.network.stations().counts(host);
+        // `None` if the sum is greater than a `u64`.
         let missed = sum.checked_add(u64::from(registers.missed));
         Some(Counts {
             missed: missed.unwrap_or(u64::MAX),
+            // MPC saturates at `u32::MAX`, so at this value MPC may be too small.
             exact: read_exactly && registers.missed < u32::MAX && missed.is_some(),
             without_descriptor: registers.without_descriptor,
             received: registers.received,
             transmitted: registers.transmitted,
-            unclaimed: own.unclaimed(),
+            unclaimed: found.unclaimed(),
         })
     }
 }

@@ -6,7 +6,7 @@ ghost use Rattle.wire.specs.Equations.{NetworkStands};
 ghost use Rattle.network_plan.specs.Answers.{answer_with, event_answer};
 ghost use Rattle.network_plan.specs.EventCalls.{Alone, ByCall, ByReset, in_event};
 ghost use Rattle.packet_socket.specs.CallEffects.{IsLegalAnswer, answer_in};
-ghost use Rattle.wire.specs.PlayedCalls.{AbsentTold, CallPlayed, ResetPlayed, TickPlayed, call_in, part_in};
+ghost use Rattle.wire.specs.PlayedCalls.{AbsentTold, CallPlayed, ResetPlayed, TickPlayed, call_in, kind_in};
 ghost use Rattle.wire.specs.RunObservers.{EventTold, played_ticks};
 ghost use Rattle.stations.specs.AtomicRuns.{is_go};
 ghost use Rattle.stations.specs.AtomicSteps.{watched};
@@ -36,20 +36,20 @@ pub(crate) struct Reset<'a> {
 
 /// An event as one of three kinds: a call with its ticks, a reset with its ticks, or a tick outside a call.
 #[derive(Clone, Copy, Drop)]
-pub(crate) enum Part<'a> {
+pub(crate) enum EventForm<'a> {
     Call(Call<'a>),
     Reset(Reset<'a>),
     Tick(Tick),
 }
 
-impl<'a> Part<'a> {
+impl<'a> EventForm<'a> {
     /// Returns the call, the reset or the tick of an event.
     #[inline(always)]
-    pub(crate) fn of(event: Event<'a>) -> Part<'a>
-        ensures { part_in result ≡ in_event event.entry }
+    pub(crate) fn of(event: Event<'a>) -> EventForm<'a>
+        ensures { kind_in result ≡ in_event event.entry }
     {
         match event {
-            Event::Send { host, frame, ticks } => Part::Call(Call {
+            Event::Send { host, frame, ticks } => EventForm::Call(Call {
                 host,
                 call: HostCall::Send(frame),
                 ticks,
@@ -58,34 +58,35 @@ impl<'a> Part<'a> {
                 host,
                 socket,
                 ticks,
-            } => Part::Call(Call {
+            } => EventForm::Call(Call {
                 host,
                 call: HostCall::Recv(socket),
                 ticks,
             }),
-            Event::Interrupt { host, ticks } => Part::Call(Call {
+            Event::Interrupt { host, ticks } => EventForm::Call(Call {
                 host,
                 call: HostCall::Interrupt,
                 ticks,
             }),
-            Event::Join { host, group, ticks } => Part::Call(Call {
+            Event::Join { host, group, ticks } => EventForm::Call(Call {
                 host,
                 call: HostCall::Join(group),
                 ticks,
             }),
-            Event::Leave { host, group, ticks } => Part::Call(Call {
+            Event::Leave { host, group, ticks } => EventForm::Call(Call {
                 host,
                 call: HostCall::Leave(group),
                 ticks,
             }),
-            Event::Reset { host, ticks } => Part::Reset(Reset { host, ticks }),
-            Event::Tick(tick) => Part::Tick(tick),
+            Event::Reset { host, ticks } => EventForm::Reset(Reset { host, ticks }),
+            Event::Tick(tick) => EventForm::Tick(tick),
         }
     }
 }
 
 /// Returns the answer of an event, without a frame, from the answer of its call. Also returns the size in bytes of the
-/// frame that a socket returned; 0 if no socket returned a frame. A size in `answer` must be from 60 to 1,518 bytes.
+/// frame that a socket returned, at most 1,518; 0 if no socket returned a frame. A size in `answer` must be from 60 to
+/// 1,518 bytes.
 ///
 /// - `ends`: if a socket copied a frame to the front of `bytes`, the returned answer, with this frame, is the event's
 ///   answer.
@@ -122,7 +123,7 @@ fn no_host<O: RunObserver>(
         (watched network.old.stations observer.old) (watched network.new.stations observer.new) }
     ensures hosts { network.new.hosts ≡ network.old.hosts }
 {
-    network.play_rest(ticks, 0, observer);
+    network.play_without_go(ticks, 0, observer);
     observer.answer(event, 0, Answer::NoHost, &[]);
 }
 
@@ -130,8 +131,9 @@ fn no_host<O: RunObserver>(
 /// no such host, only the ticks are played, and the answer is `NoHost`. A frame that a socket returns is copied to the
 /// front of `given`, and lent to the observer.
 ///
-/// `call` must be the call of `event`. The observer must have room for the answer, and for the outcome of each tick,
-/// including each `Go`.
+/// `call` must be the call of `event` (`is`). The observer must have room for the answer, and for the outcome of each
+/// tick, including each `Go`. The clause without a name: the observer was told the contents of a reply to the event.
+/// `CallPlayed` states how the call changed the network, and what this reply states.
 #[inline(always)]
 pub(crate) fn make_call<O: RunObserver>(
     network: &mut Network,
@@ -159,7 +161,7 @@ pub(crate) fn make_call<O: RunObserver>(
 /// Resets the adapter of an event's host, while the event's ticks are played. Reports the answer, which contains the
 /// frames that the reset dropped. If there is no such host, only the ticks are played, and the answer is `NoHost`.
 ///
-/// `reset` must be the reset of `event`. The observer must have room as for [`make_call`].
+/// `reset` must be the reset of `event` (`is`). The observer must have room as for [`make_call`].
 ///
 /// # Errors
 ///
@@ -198,7 +200,7 @@ pub(crate) fn make_reset<O: RunObserver>(
 }
 
 /// Plays a tick outside a call, and reports the answer `NoCall`, with 0 accesses. `Go` changes no station, and its
-/// outcome is `Nothing`. `tick` must be the tick of `event`. The observer must have room for the outcome and the
+/// outcome is `Nothing`. `tick` must be the tick of `event` (`is`). The observer must have room for the outcome and the
 /// answer.
 #[inline(always)]
 pub(crate) fn tick<O: RunObserver>(
@@ -214,8 +216,8 @@ pub(crate) fn tick<O: RunObserver>(
         (λ reply. TickPlayed tick reply network.old.stations network.new.stations) }
     ensures hosts { network.new.hosts ≡ network.old.hosts }
 {
-    // `Network::play` does the same for `Go`, so the first arm serves only the proof: the contract of `Network::play`
-    // states an atomic step for each tick (`Idles Go`), but `TickPlayed` states no atomic step for `Go`.
+    // `Network::play` does the same for `Go`, so the first arm serves only the proof. The contract of `Network::play`
+    // states an atomic step also for `Go` (`Idles Go`), but `TickPlayed` states no atomic step for `Go`.
     match tick {
         Tick::Go => observer.note(tick, 0, Outcome::Nothing, &[]),
         _ => network.play(tick, 0, observer),

@@ -2,8 +2,6 @@
 
 ghost use Rattle.std.specs.Prelude.{◌≡◌, ◌≤◌, [], ℕ, IfErr, IfOk, length};
 ghost use Rattle.adapter.specs.Registers.{new_adapter};
-ghost use Rattle.registers.specs.Image.{address_bytes};
-ghost use Rattle.rx_engine.specs.Addresses.{IsAddress};
 ghost use Rattle.bring_up.specs.Configuration.{configured_counts};
 ghost use Rattle.dma_memory.specs.Layout.{size_of};
 ghost use Rattle.network_plan.specs.Plans.{HasConfig};
@@ -16,12 +14,12 @@ use bus::{LivelyBus, Machine};
 use dma_memory::HostMemory;
 use network_plan::{HostPlan, MOST_SOCKETS};
 use packet_socket::{Host, SocketKind};
-use registers::Image;
 use std::alloc::Global;
 
 /// Makes a host's adapter, and its memory with the layout's size, and initializes the adapter. Before each access of
 /// the initialization, the EEPROM and the PHY take a step, and no frame arrives. The host isn't connected to a wire
-/// yet. The plan's configuration must be valid, and its link must need at least one PHY tick (`HasConfig`).
+/// yet, so `comes_up` holds for each number of a wire. The plan's configuration must be valid. Its link must need at
+/// least one PHY tick, or never be up (`HasConfig`).
 ///
 /// # Errors
 ///
@@ -55,9 +53,7 @@ fn host_over(alloc: Global, plan: &HostPlan, machine: &mut Machine) -> Result<Ho
         → ComesUp plan.now host (record { world = machine.new.world; wire = wire; backlog = [] })) }
     ensures why { IfErr result (IsReason plan.now) }
 {
-    // Only for the proof of `comes_up`: the contract of `address_of` states that the address has six bytes.
-    let _address = address_of(&plan.image);
-    let table = table_of(plan.sockets.as_slice());
+    let table = sockets_of(plan.sockets.as_slice());
     let mut bus = LivelyBus {
         machine,
         accesses: 0,
@@ -79,23 +75,16 @@ fn machine_of(alloc: Global, plan: &HostPlan) -> Result<Machine, InitError>
         (λ machine. length machine.world.memory ≡ size_of (configured_counts plan.now.config)) }
     ensures error { IfErr result (λ error. error ≡ InitError.Memory) }
 {
-    // The memory gets the layout's size, so no smaller memory limits the layout.
+    // `u64::MAX`: no memory limits the layout, because the memory is made with the layout's size.
     let layout = plan.config.layout(u64::MAX)?;
     let memory = HostMemory::new(alloc, layout.size())?;
     let adapter = Adapter::new(alloc, &plan.image, plan.link)?;
     Ok(Machine::new(adapter, memory))
 }
 
-/// Returns the Ethernet address in an EEPROM.
-fn address_of(image: &Image) -> [u8; 6]
-    ensures address { result ≡ address_bytes image.now }
-    ensures is { IsAddress result }
-{
-    image.address()
-}
-
-/// Returns a copy of these sockets, in the same order. There must be at most [`MOST_SOCKETS`] (8) sockets.
-fn table_of(sockets: &[SocketKind]) -> ArrayVec<SocketKind, MOST_SOCKETS>
+/// Returns the table of sockets for a host: a copy of `sockets`, in the same order. There must be at most
+/// [`MOST_SOCKETS`] (8) sockets.
+fn sockets_of(sockets: &[SocketKind]) -> ArrayVec<SocketKind, MOST_SOCKETS>
     requires { length sockets.now ≤ MOST_SOCKETS }
     ensures { result.items ≡ sockets.now }
 {

@@ -45,9 +45,12 @@ pub fn bring_up(alloc: Global, plan: &Plan) -> Result<Network, PlanError>
     Ok(network)
 }
 
-/// Initializes host `number`, and returns the host with its machine. The host isn't connected to a wire yet.
-/// `HasConfig` must hold for each plan. Each earlier host must have a right EEPROM checksum, and a link that can be up
-/// (`CanComeUp`). An error other than [`Memory`](PlanError::Memory) contains the host's number.
+/// Initializes host `number`, and returns the host with its machine. The host isn't connected to a wire yet, so `up`
+/// holds for each number of a wire. Each plan must have a valid configuration, and a link that needs at least one PHY
+/// tick (`HasConfigs`).
+///
+/// An error other than [`Memory`](PlanError::Memory) contains the host's number, as the first host that can't be
+/// initialized. So each earlier host must have a right EEPROM checksum, and a link that can be up (`CanComeUp`).
 fn bring_up_one(
     alloc: Global,
     plans: &[HostPlan],
@@ -66,7 +69,8 @@ fn bring_up_one(
     }
 }
 
-/// Returns the error of a plan if the initialization of host `number` failed with `error`.
+/// Returns the error of a plan if the initialization of host `number` failed with `error`. Only an error of the host
+/// itself, not refused memory, contains the number.
 fn refusal(number: usize, error: InitError) -> PlanError
     ensures memory { error ≡ InitError.Memory → result ≡ PlanError.Memory }
     ensures device { error ≢ InitError.Memory → result ≡ PlanError.Init number error }

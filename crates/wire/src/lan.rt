@@ -1,7 +1,7 @@
 // Networks of hosts on wires, and runs of events.
 
 use crate::collector::Collector;
-use crate::events::{self, Part};
+use crate::events::{self, EventForm};
 use crate::run_observer::RunObserver;
 use host_calls::Network;
 use network_plan::{Event, Reply, Stopped};
@@ -57,15 +57,15 @@ impl Lan {
         ensures refused { IfErr result (λ error. IsResetOf (length self.old.hosts) (in_event event.now)
             × (self.new ≡ self.old) × (observer.new ≡ observer.old)) }
     {
-        match Part::of(*event) {
-            Part::Call(call) => {
+        match EventForm::of(*event) {
+            EventForm::Call(call) => {
                 events::make_call(&mut self.network, event, &call, &mut self.given, observer);
                 Ok(())
             }
-            Part::Reset(reset) => {
+            EventForm::Reset(reset) => {
                 events::make_reset(&mut self.network, self.alloc, event, &reset, observer)
             }
-            Part::Tick(tick) => {
+            EventForm::Tick(tick) => {
                 events::tick(&mut self.network, event, tick, observer);
                 Ok(())
             }
@@ -79,8 +79,8 @@ impl Lan {
     /// # Errors
     ///
     /// Returns an error only if the observer refuses to make room for an event, or if memory for the frames that a
-    /// reset drops can't be allocated. The first `done` events were run and told, and the next event changed nothing in
-    /// the network.
+    /// reset drops can't be allocated. The first `done` events were run and reported, and the next event changed
+    /// nothing in the network.
     #[inline(always)]
     pub fn play<O: RunObserver>(
         &mut self,
@@ -106,8 +106,8 @@ impl Lan {
     }
 
     /// Runs events in order, and appends a reply for each, unless memory runs out. Whatever the events are, each socket
-    /// returns the frames that its host's adapter stored for the socket, in order, each once, except frames that the
-    /// host still holds or that a reset dropped. `delivers` of `RunsTo` states this for the whole run, and
+    /// returns the frames that its host's adapter stored for the socket, in order, each once. Exceptions are frames
+    /// that the host still holds, or that a reset dropped. `delivers` of `RunsTo` states this for the whole run, and
     /// [`runs_join`](crate::runs_join) for several runs. Before and after each event, each buffer has one owner.
     ///
     /// A frame is lost only for one of these reasons:
@@ -133,6 +133,7 @@ impl Lan {
         ensures stopped { IfErr result (λ stopped. (stopped.done < length events.now)
             × RunsTo self.old (take stopped.done events.now) replies.old.items replies.new.items self.new) }
     {
+        // During the run, the collector owns the list of replies.
         let held = std::mem::replace(replies, Vec::new(alloc));
         let mut collector = Collector::new(alloc, held);
         let ran = self.play(events, &mut collector);

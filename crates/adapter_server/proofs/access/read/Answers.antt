@@ -3,7 +3,7 @@ use Rattle.server_requests.specs.Widths.{wanted_size}
 use Rattle.adapter_server.specs.Answers.{ReadsAt}
 use Rattle.adapter_server.specs.Sessions.{place_in}
 use Rattle.adapter_server.specs.Tasks.{Performs, task_said}
-use Rattle.adapter_server.specs.declared.session.Place.TheVariants.{Memory, Register}
+use Rattle.adapter_server.specs.declared.session.AccessPlace.TheVariants.{Memory, Register}
 use Rattle.adapter_server.specs.declared.session.Session.{Session}
 use Rattle.adapter_server.specs.declared.task.Task.TheVariants as tasks
 use Rattle.adapter_server.proofs.Places.{register_place}

@@ -8,7 +8,7 @@ use Rattle.pcap_bench.proofs.choosing.write_group.Goals as goal
 pub returns-in-Some : goal.returns-in-Some
 returns-in-Some c =
     let state = c.args.adapter.now in
-    c.write_number.ensures
+    c.write_table_word.ensures
     ∙ ap (λ (n : ℕ). after_write (0x5200 + 4 * (n / 32)) (2 ^ (n % 32)) state) c.hash_of.ensures
     ∙ wrote-group (group_number 4 c.in-Some.group) state (omega arith)
     ∙ ap (λ (o : Option (List ℕ)). record state { filter = with_group_bit o state.filter }) (sym c.in-Some.is)

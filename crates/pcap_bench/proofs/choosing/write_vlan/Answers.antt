@@ -8,5 +8,5 @@ pub returns-in-Some : goal.returns-in-Some
 returns-in-Some c =
     let state = c.args.adapter.now in
     let below = subst (λ (o : Option ℕ). IfSome o (λ n. n ≤ 4095)) c.in-Some.is c.requires in
-    c.write_number.ensures ∙ wrote-vlan c.in-Some.number state below
+    c.write_table_word.ensures ∙ wrote-vlan c.in-Some.number state below
     ∙ ap (λ (o : Option ℕ). record state { filter = with_vlan_bit o state.filter }) (sym c.in-Some.is)

@@ -32,7 +32,8 @@ returns-else-is_empty-clause-next g c =
     let new = c.take_part.new.line in
     let takes = subst (λ (part : Part). BothKnown (left c.loop-turn.reader) (left c.take_part.new.reader)
     (TakesPart part c.loop-turn.line.items new.items)) c.in-Ok-None.field-0-is c.in-Ok-None.ensures.ok in
-    subst (λ (next : NextLine). IsNextLine next new.items (left c.args.reader.now) (left c.take_part.new.reader)) (sym c.kept_as.ensures)
+    subst (λ (next : NextLine). IsNextLine next new.items (left c.args.reader.now) (left c.take_part.new.reader))
+    (sym c.whole_or_long.ensures)
     (reads_rest c.loop-turn.line.items new.items c.loop-turn.is_long (left c.args.reader.now) (left c.loop-turn.reader)
     (left c.take_part.new.reader) (empty_no _ _ (sym c.is_empty.ensures ∙ c.if-is_empty.false) (omega (arith, new.ok.0)))
     c.loop-turn.invariant.got takes)
@@ -45,7 +46,7 @@ returns-in-Ok-Last-clause-next g c =
     let takes = subst (λ (part : Part). BothKnown (left c.loop-turn.reader) (left c.take_part.new.reader)
     (TakesPart part c.loop-turn.line.items new.items)) last.field-0-is last.ensures.ok in
     subst (λ (next : NextLine). IsNextLine next new.items (left c.args.reader.now) (left c.take_part.new.reader))
-    (sym c.kept_as-in-Ok-Last.ensures)
+    (sym c.whole_or_long-in-Ok-Last.ensures)
     (reads_last c.loop-turn.line.items new.items c.loop-turn.is_long last.more (left c.args.reader.now) (left c.loop-turn.reader)
     (left c.take_part.new.reader) c.loop-turn.invariant.got takes)
 

@@ -51,8 +51,8 @@ loop-left-preserved c =
     let frame = frame_at c.args.pad memory (address_of ring l.place) in
     let later =
     map (λ (slot : ℕ). frame_at c.args.pad memory (address_of ring slot)) (slots_from (count_of ring) (next_of ring l.place) left) in
-    let more : c.append_padded.new.frames.items ≡ l.frames.items ++ frame ∷ [] =
-    c.append_padded.ensures.frames
+    let more : c.append_as_sent.new.frames.items ≡ l.frames.items ++ frame ∷ [] =
+    c.append_as_sent.ensures.frames
     ∙ ap (λ (bytes : List ℕ). l.frames.items ++ as_sent c.args.pad bytes ∷ []) c.in-Some.ensures.bytes in
     let one = ap length more in
     let sum = length-append l.frames.items (frame ∷ []) in
@@ -61,12 +61,12 @@ loop-left-preserved c =
       lie = subst (λ (n : ℕ). All (λ slot. CanBeCopied memory (address_of ring slot)) (slots_from (count_of ring) n left)) (sym next)
           (λ k d below. all (suc k) d (omega (arith, below)));
       frames =
-          ap (λ (n : ℕ). c.append_padded.new.frames.items
+          ap (λ (n : ℕ). c.append_as_sent.new.frames.items
           ++ map (λ (slot : ℕ). frame_at c.args.pad memory (address_of ring slot)) (slots_from (count_of ring) n left)) next
           ∙ ap (λ (list : List (List ℕ)). list ++ later) more
           ∙ append_assoc l.frames.items (frame ∷ []) later
           ∙ ap (λ (list : List ℕ). l.frames.items ++ map (λ (slot : ℕ). frame_at c.args.pad memory (address_of ring slot)) list) (sym split)
           ∙ i.frames;
-      room = omega (arith, one, sum, i.room, c.loop-left-test.true, c.append_padded.ensures.room);
-      capacity = omega (arith, i.capacity, c.append_padded.ensures.room);
+      room = omega (arith, one, sum, i.room, c.loop-left-test.true, c.append_as_sent.ensures.room);
+      capacity = omega (arith, i.capacity, c.append_as_sent.ensures.room);
     }

@@ -16,10 +16,11 @@ returns-clause-to_send c =
     let pad = pads c.args.control.0 in
     let named = c.in-Some.named in
     let fetchable = c.in-Some.ensures.fetchable.0 refl in
-    let apart : ¬ (ring.head ≡ ring.tail) = λ same. iff_false c.is_idle.ensures.idle c.if-is_idle.false (inr (inr (inr same))) in
+    let apart : ¬ (ring.head ≡ ring.tail) =
+    λ same. iff_false c.has_nothing_to_take.ensures.nothing c.if-has_nothing_to_take.false (inr (inr (inr same))) in
     let made = pushed-fetched pad memory named.bytes.now
-    (address_of ring ring.head) named.descriptor c.least_of.result named.reports c.in-Some.ensures.bytes c.in-Some.ensures.descriptor
-    c.in-Some.ensures.reports c.least_of.ensures in
+    (address_of ring ring.head) named.descriptor c.least_of.result named.rs c.in-Some.ensures.bytes c.in-Some.ensures.descriptor
+    c.in-Some.ensures.rs c.least_of.ensures in
     let grown : c.push.new.self.buffer ≡ buffer ++ fetched pad memory (address_of ring ring.head) ∷ [] =
     ap (λ (t : Transmitter). t.buffer) c.push.ensures ∙ ap (λ (last : Queued). buffer ++ last ∷ []) made in
     ap (λ (head : ℕ). let moved : Ring = record ring { head = head } in to_send memory moved pad c.push.new.self.buffer) c.next-ring.ensures

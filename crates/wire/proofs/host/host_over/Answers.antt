@@ -1,5 +1,4 @@
 use Rattle.std.proofs.Common.{rules, List, ap, subst, ◌∙◌}
-use Rattle.rx_engine.specs.Addresses.{IsAddress}
 use Rattle.adapter.specs.World.{World}
 use Rattle.packet_socket.specs.HostState.{new_host}
 use Rattle.packet_socket.specs.declared.socket_kind.SocketKind.{SocketKind}
@@ -16,12 +15,11 @@ returns-clause-comes_up c wire =
     (comes-up plan _ new host wire (record {
       size = 18446744073709551615;
       had = c.requires.config.config;
-      address = subst IsAddress c.address_of-address.ensures.address c.address_of-address.ensures.is;
       adapter = c.requires.adapter;
       memory = c.in_ok-host.ensures.keeps.extent ∙ c.requires.memory;
       host_is =
           c.in_ok-host.ensures.ok.new
-          ∙ ap (λ (kinds : List SocketKind). new_host host.driver kinds) (c.table_of-table.ensures ∙ c.as_slice.ensures.value);
+          ∙ ap (λ (kinds : List SocketKind). new_host host.driver kinds) (c.sockets_of-table.ensures ∙ c.as_slice.ensures.value);
       fresh = c.in_ok-host.ensures.ok.fresh.new;
       joined = c.in_ok-host.ensures.ok.fresh.joined;
       refilled = c.in_ok-host.ensures.ok.fresh.refilled;

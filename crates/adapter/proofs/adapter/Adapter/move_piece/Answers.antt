@@ -6,7 +6,7 @@ use Rattle.adapter.proofs.adapter.Adapter.move_piece.Goals as goal
 
 pub returns-clause-answer : goal.returns-clause-answer
 returns-clause-answer c =
-    rw (c.outcome_of.ensures, sym c.self.view_is)
+    rw (c.outcome_of_data.ensures, sym c.self.view_is)
     (answered-data _ c.rx_data-answer.result c.args.memory.now (state_of c.self.inside)
     (rw (c.rctl.ensures, c.ring-ring.ensures) at c.rx_data-answer.ensures.nothing)
     (rw (c.rctl.ensures, c.ring-ring.ensures) at c.rx_data-answer.ensures.fault)
@@ -16,9 +16,9 @@ returns-clause-answer c =
 pub returns-clause-state : goal.returns-clause-state
 returns-clause-state c =
     rw (
-      c.outcome_of.ensures,
+      c.outcome_of_data.ensures,
       c.raise.ensures,
-      c.causes_of_answer.ensures,
+      c.causes_of_data.ensures,
       c.rx_data-answer.ensures.engine,
       c.rx_data-answer.ensures.ring,
       c.rctl.ensures,
@@ -30,7 +30,7 @@ returns-clause-state c =
 
 pub returns-clause-memory : goal.returns-clause-memory
 returns-clause-memory c =
-    rw (c.outcome_of.ensures, c.rx_data-answer.ensures.memory, c.rctl.ensures, c.ring-ring.ensures, sym c.self.view_is)
+    rw (c.outcome_of_data.ensures, c.rx_data-answer.ensures.memory, c.rctl.ensures, c.ring-ring.ensures, sym c.self.view_is)
     (memory_by-data _ c.rx_data-answer.result c.args.memory.now (state_of c.self.inside))
 
 pub returns-clause-only : goal.returns-clause-only
@@ -38,7 +38,7 @@ returns-clause-only c = rw (sym c.self.view_is) (rw (c.rctl.ensures, c.ring-ring
 
 pub invariant_of-self : goal.invariant_of-self
 invariant_of-self c =
-    adapter-raised (state_of c.self.inside) c.causes_of_answer.result.0 c.raise.ensures c.self.invariant c.rx_data-answer.ensures.after
+    adapter-raised (state_of c.self.inside) c.causes_of_data.result.0 c.raise.ensures c.self.invariant c.rx_data-answer.ensures.after
 
 pub returns-clause-size : goal.returns-clause-size
 returns-clause-size c = c.rx_data-answer.ensures.only.size

@@ -10,20 +10,20 @@ invariant_of-self c =
 
 pub returns-clause-state : goal.returns-clause-state
 returns-clause-state c =
-    tick-state c.tick-told.result c.tick-told.new.phy c.tick-told.new.self c.causes_of_tick.result.0 c.raise.new.self
-    (state_of c.self.inside) c.causes_of_tick.ensures c.raise.ensures c.tick-told.ensures.phy c.tick-told.ensures.mdic
-    c.tick-told.ensures.mdic_stays c.tick-told.ensures.phy_stays c.tick-told.ensures.told
+    tick-state c.tick-ticked.result c.tick-ticked.new.phy c.tick-ticked.new.self c.causes_of_tick.result.0 c.raise.new.self
+    (state_of c.self.inside) c.causes_of_tick.ensures c.raise.ensures c.tick-ticked.ensures.phy c.tick-ticked.ensures.mdic
+    c.tick-ticked.ensures.mdic_stays c.tick-ticked.ensures.phy_stays c.tick-ticked.ensures.told
     ∙ ap after_phy_tick c.self.view_is
 
 pub returns-clause-answer : goal.returns-clause-answer
 returns-clause-answer c =
     rw (c.outcome_of_tick.ensures, sym c.self.view_is)
-    (tick-answers _ c.tick-told.result (state_of c.self.inside) c.tick-told.ensures.told)
+    (tick-answers _ c.tick-ticked.result (state_of c.self.inside) c.tick-ticked.ensures.told)
 
 pub returns-clause-nothing : goal.returns-clause-nothing
 returns-clause-nothing c = λ nothing.
     returns-clause-state c
-    ∙ rw (sym c.self.view_is) (tick-nothing _ c.tick-told.result (state_of c.self.inside) c.tick-told.ensures.told
+    ∙ rw (sym c.self.view_is) (tick-nothing _ c.tick-ticked.result (state_of c.self.inside) c.tick-ticked.ensures.told
     (sym c.outcome_of_tick.ensures ∙ nothing))
 
 pub returns-clause-adapter : goal.returns-clause-adapter

@@ -50,7 +50,7 @@ returns-in-Ok-clause-plays g c =
     let a = c.args.device.now in
     rw c.in-Offer.is (record {
       told = [];
-      holds = (refl, ap (λ (offered : List (List ℕ)). record a { offered = offered }) c.in-Ok.ensures, refl);
+      holds = (refl, ap (λ (offered : List (List ℕ)). record a { offered = offered }) c.in-Ok.ensures.ok, refl);
       hears = g.met.O.Observer.composes.stays c.args.observer.now;
     })
 

@@ -18,7 +18,7 @@ loop-frame-preserved g c =
     let l = c.loop-frame in
     let frame = c.in-Some.frame.now in
     let one = rw c.if-not-branch.false at c.in_ok-send.ensures.exchanges in
-    let two = c.in_ok-answer_line.ensures in
+    let two = c.in_ok-turn_if_asserted.ensures in
     record {
       memory = still-fits g.B.Bus [] _ _ two.exchanges (still-fits g.B.Bus (accepted_of frame) _ _ one l.invariant.memory);
       failures = two.failures ∙ c.in_ok-send.ensures.failures ∙ l.invariant.failures;

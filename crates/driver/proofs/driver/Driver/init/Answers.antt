@@ -1,7 +1,7 @@
 use Rattle.std.proofs.Common.{List, ℕ, ◌≡◌, ◌≤◌, [], Bool, true, length, ap, refl, sym, subst, ◌∙◌, arith, inr}
 use Rattle.dma_memory.specs.Layout.{Counts, size_of}
 use Rattle.dma_memory.specs.Owners.{HasOneOwner}
-use Rattle.bring_up.specs.Configuration.{CanBeHad, configured_counts}
+use Rattle.bring_up.specs.Configuration.{IsValidIn, configured_counts}
 use Rattle.bring_up.specs.ConfiguredAdapters.{names_vlans, setup_of}
 use Rattle.bring_up.specs.DriverSteps.{LetsFramesIn}
 use Rattle.bring_up.specs.RingRegisters.{receive_writes}
@@ -106,7 +106,7 @@ returns-clause-initialises g c honest =
     let d = c.offer_first.new.self in
     let o = offered g c in
     let size : c.size.result ≡ g.B.Bus.extent b0 = c.size.ensures in
-    let had : CanBeHad config (g.B.Bus.extent b0) = subst (CanBeHad config) size (c.in_ok-layout.ensures.ok.0 refl) in
+    let had : IsValidIn config (g.B.Bus.extent b0) = subst (IsValidIn config) size (c.in_ok-layout.ensures.ok.0 refl) in
     let finds = c.in_ok-address.ensures.finds honest in
     let h1 = c.in_ok-address.ensures.keeps.honest honest in
     let h2 = c.offer_first.ensures.keeps.honest h1 in

@@ -7,7 +7,7 @@ use Rattle.dma_memory.specs.Owners.{HaveSameNumbers}
 use Rattle.bus.proofs.Keeping.{keeps-on}
 use Rattle.bus.specs.Settings.{IsOff}
 use Rattle.bus.specs.declared.event.Access.TheVariants.{Reads, Writes}
-use Rattle.bring_up.specs.Configuration.{CanBeHad, configured_counts, vlans_of}
+use Rattle.bring_up.specs.Configuration.{IsValidIn, configured_counts, vlans_of}
 use Rattle.bring_up.specs.ConfiguredAdapters.{names_vlans, setup_of}
 use Rattle.bring_up.specs.FilterSetting.{SetsFilter}
 use Rattle.bring_up.specs.declared.config.Config.{Config}
@@ -141,7 +141,7 @@ returns-clause-resets g c up held is =
     let groups : c.as_slice.result.now ≡ d0.groups =
     c.as_slice.ensures ∙ ap (λ (d : DriverState). d.groups) c.self.view_is ∙ ap (λ (d : DriverState). d.groups) again_is in
     let resets_again = c.self.invariant.resets in
-    let had : CanBeHad config (bus.extent b0) = record {
+    let had : IsValidIn config (bus.extent b0) = record {
       counts = resets_again.allowed;
       numbers = record { allocation = resets_again.right.allocation; groups = all-none IsGroup; vlans = resets_again.right.vlans };
       room = subst (λ (l : Counts). size_of l ≤ bus.extent b0) layout c.requires.memory;

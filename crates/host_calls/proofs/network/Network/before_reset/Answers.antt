@@ -1,4 +1,4 @@
-use Rattle.std.proofs.Common.{◌+◌, ◌++◌, ℕ, List, arith, ap, length, length-append, ◌∙◌}
+use Rattle.std.proofs.Common.{◌+◌, ◌++◌, ℕ, List, arith, ap, length, ◌∙◌}
 use Rattle.dma_memory.specs.Layout.{Counts}
 use Rattle.adapter.specs.HostFrames.{frames_held, frames_to_send}
 use Rattle.stations.specs.Stations.{world_at}
@@ -12,7 +12,7 @@ pending-requires-clause-sending c = can-read_sending
     c.requires.ready c.requires.adapter).ready.ready
 
 pub pending-requires-clause-holding : goal.pending-requires-clause-holding
-pending-requires-clause-holding c = rw c.oldest.ensures (can-read_held
+pending-requires-clause-holding c = rw c.oldest_receive.ensures (can-read_held
     (found-host (has-host c.self.view_is c.self.invariant c.requires.there c.index-host.ensures)
     c.requires.ready c.requires.adapter).ready.ready)
 
@@ -36,26 +36,9 @@ pub pending-requires-clause-holding_room : goal.pending-requires-clause-holding_
 pending-requires-clause-holding_room c =
     let few = held-within (c.from.result + c.from-2.result)
     (found-host (has-host c.self.view_is c.self.invariant c.requires.there c.index-host.ensures)
-    c.requires.ready c.requires.adapter) c.layout-layout.ensures c.oldest.ensures
+    c.requires.ready c.requires.adapter) c.layout-layout.ensures c.oldest_receive.ensures
     (omega (arith, c.from.ensures, c.from-2.ensures, c.rx.ensures.count)) in
     omega (arith, few, ap length c.reserve-2.ensures.items, ap length c.new-holding.ensures.items, c.in_ok-reserve-2.ensures.ok)
-
-pub overflow_sub-most : goal.overflow_sub-most
-overflow_sub-most c =
-    let few = held-within (c.from.result + c.from-2.result)
-    (found-host (has-host c.self.view_is c.self.invariant c.requires.there c.index-host.ensures)
-    c.requires.ready c.requires.adapter) c.layout-layout.ensures c.oldest.ensures
-    (omega (arith, c.from.ensures, c.from-2.ensures, c.rx.ensures.count)) in
-    omega (
-      arith,
-      few,
-      c.len.ensures,
-      c.pending.new.holding.ok.0,
-      ap length c.pending.ensures.holding,
-      length-append c.reserve-2.new.self.items (frames_held c.oldest.result (world_at c.self.inside.stations c.args.number)),
-      ap length c.reserve-2.ensures.items,
-      ap length c.new-holding.ensures.items,
-    )
 
 pub returns : goal.returns
 returns c =
@@ -66,14 +49,14 @@ returns c =
           c.requires.ready c.requires.adapter)
           (c.pending.ensures.sending
           ∙ ap (λ (list : List (List ℕ)). list ++ frames_to_send w) (c.reserve.ensures.items ∙ c.new-sending.ensures.items))
-          (c.reserve-3.ensures.items ∙ c.pending.ensures.holding
-          ∙ ap (λ (list : List (List ℕ)). list ++ frames_held c.oldest.result w) (c.reserve-2.ensures.items ∙ c.new-holding.ensures.items)
-          ∙ ap (λ (o : ℕ). frames_held o w) c.oldest.ensures)
+          (c.pending.ensures.holding
+          ∙ ap (λ (list : List (List ℕ)). list ++ frames_held c.oldest_receive.result w)
+          (c.reserve-2.ensures.items ∙ c.new-holding.ensures.items)
+          ∙ ap (λ (o : ℕ). frames_held o w) c.oldest_receive.ensures)
           (omega (
             arith,
-            c.in_ok-reserve-3.ensures.ok,
-            c.reserve-3.ensures.len,
-            c.len.ensures,
+            c.in_ok-reserve-2.ensures.ok,
+            c.pending.ensures.holding_capacity,
             c.from.ensures,
             c.from-2.ensures,
             c.rx.ensures.count,

@@ -1,7 +1,7 @@
 use Rattle.std.proofs.Common.{ap, refl, sym, subst, ◌∙◌}
 use Rattle.dma_memory.specs.Layout.{Counts}
 use Rattle.dma_memory.specs.OwnersLaws.{no_second_from_one}
-use Rattle.bring_up.specs.Configuration.{CanBeHad}
+use Rattle.bring_up.specs.Configuration.{IsValidIn}
 use Rattle.bus.specs.DriverState.{owners}
 use Rattle.driver.proofs.Initialisation.{refused}
 use Rattle.packet_socket.proofs.ConsistentHosts.{new-host, new-ready}
@@ -31,4 +31,4 @@ returns-clause-ready g c honest =
     (c.in_ok-driver.ensures.initialises honest).started.ready
 
 pub returns-clause-had : goal.returns-clause-had
-returns-clause-had g c = subst (CanBeHad c.args.config.now) c.size.ensures (c.in_ok-layout.ensures.ok.0 refl)
+returns-clause-had g c = subst (IsValidIn c.args.config.now) c.size.ensures (c.in_ok-layout.ensures.ok.0 refl)

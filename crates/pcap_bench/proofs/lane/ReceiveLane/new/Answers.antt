@@ -33,14 +33,15 @@ is_ready c =
 
 pub invariant_of-result : goal.invariant_of-result
 invariant_of-result c =
-    subst (λ (s : AdapterState). IsLane (record { adapter = s; memory = c.offer_all.new.memory; slot = 0 })) (sym (is_ready c)) (record {
+    subst (λ (s : AdapterState). IsLane (record { adapter = s; memory = c.store_all_descs.new.memory; slot = 0 }))
+    (sym (is_ready c)) (record {
       receiving = mode-receiving c.args.options.now;
       room = refl;
       idle = refl;
       slot = omega arith;
       ring = refl;
-      size = c.offer_all.ensures.size;
-      buffers = c.offer_all.ensures.buffers;
+      size = c.store_all_descs.ensures.size;
+      buffers = c.store_all_descs.ensures.buffers;
     })
 
 pub returns-clause-filter : goal.returns-clause-filter

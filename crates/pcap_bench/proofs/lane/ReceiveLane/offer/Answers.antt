@@ -26,9 +26,9 @@ invariant_of-self c =
     let slot = c.self.inside.slot in
     let lane : LaneState = record { adapter = c.self.inside.adapter; memory = c.self.inside.memory; slot = slot } in
     let is = IsLane-offered lane c.descriptor-buffer.result.address c.self.invariant (buffer_is c) in
-    subst (λ (s : AdapterState). IsLane (record { adapter = s; memory = c.offer.new.memory; slot = (slot + 1) % 8 })) (sym (wrote c))
+    subst (λ (s : AdapterState). IsLane (record { adapter = s; memory = c.store_desc.new.memory; slot = (slot + 1) % 8 })) (sym (wrote c))
     (subst (λ (m : List ℕ). IsLane (record { adapter = with_tail lane.adapter slot; memory = m; slot = (slot + 1) % 8 }))
-    (sym c.offer.ensures) is)
+    (sym c.store_desc.ensures) is)
 
 pub returns-clause-offered : goal.returns-clause-offered
 returns-clause-offered c =
@@ -38,9 +38,9 @@ returns-clause-offered c =
     let below = c.self.invariant.slot in
     let named = buffer_is c in
     let small : buffer < 2 ^ 64 = omega arith in
-    let is : descriptor_at c.offer.new.memory (16 * slot)
+    let is : descriptor_at c.store_desc.new.memory (16 * slot)
     ≡ record { address = buffer; length = 0; checksum = 0; status = record { 0 = 0 }; errors = 0; special = 0 } =
-    ap (λ (m : List ℕ). descriptor_at m (16 * slot)) c.offer.ensures
+    ap (λ (m : List ℕ). descriptor_at m (16 * slot)) c.store_desc.ensures
     ∙ descriptor_at-offered memory slot buffer below c.self.invariant.size small in
     rw (← c.self.view_is) (ap (λ (d : RxDesc). status_bits d.status) is)
 

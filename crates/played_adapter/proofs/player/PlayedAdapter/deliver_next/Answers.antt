@@ -11,6 +11,6 @@ pub returns : goal.returns
 returns g c =
     let later = c.pop.new.self in
     oldest_arrives g.O.Observer.heard g.met.O.Observer.composes c.as_slice-bytes.result.now later c.arrive-fate.result c.args.self.now
-    c.report.new.self _ c.args.observer.now c.offered.new.self c.report.new.observer
+    c.report.new.self _ c.args.observer.now c.offered_arrived.new.self c.report.new.observer
     (c.in-Some.ensures.some ∙ ap (λ (frame : List ℕ). frame ∷ later) (sym c.as_slice-bytes.ensures)) c.arrive-fate.ensures.occurs
-    c.arrive-fate.ensures.state c.offered.ensures c.report.ensures
+    c.arrive-fate.ensures.state c.offered_arrived.ensures c.report.ensures

@@ -14,11 +14,11 @@ pub returns-clause-plays : goal.returns-clause-plays
 returns-clause-plays g c =
     let heard = g.O.Observer.heard in
     let a = c.args.self.now in
-    let waiting = c.args.agenda.now.waiting in
+    let waiting = c.args.agenda.now.deviations in
     let event = event_value c.coming-event.result in
-    let due = flat_map moves_of (due_before event (map waiting_value c.waiting.result.now)) in
+    let due = flat_map moves_of (due_before event (map waiting_value c.deviations.result.now)) in
     let moves : tick_moves c.held.result a ++ due ≡ access_moves c.args.before c.args.name.now c.args.agenda.now a
-    = ap (λ (ws : List WaitingValue). tick_moves c.held.result a ++ flat_map moves_of (due_before event ws)) c.waiting.ensures
+    = ap (λ (ws : List WaitingValue). tick_moves c.held.result a ++ flat_map moves_of (due_before event ws)) c.deviations.ensures
     ∙ ap (λ (held : Held). tick_moves held a ++ flat_map moves_of (due_before event waiting)) c.held.ensures
     ∙ ap (λ (e : EventValue). tick_moves (default_steps_held (due_before e waiting) c.args.agenda.now) a
     ++ flat_map moves_of (due_before e waiting))

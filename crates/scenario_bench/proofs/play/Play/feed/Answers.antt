@@ -2,7 +2,7 @@ use Rattle.std.proofs.Common.{◌≡◌, ℕ, List, Option, map, refl, rules, su
 use Rattle.std.specs.Prelude.{IfSome}
 use Rattle.std.proofs.lemmas.Result.{err_from_is_err_and}
 use Rattle.scenario.specs.SoFar.{command_of_event, hosts_of}
-use Rattle.scenario_bench.specs.EventLists.{behind_send, fed}
+use Rattle.scenario_bench.specs.EventLists.{events_after_send, fed}
 use Rattle.scenario_bench.proofs.PlayedEvents.{HasFed, fed_stops, none_fed, one_fed}
 use Rattle.scenario_bench.proofs.play.Play.feed.Goals as goal
 
@@ -14,7 +14,7 @@ loop-frame-init c =
       subst (λ (rest : List (List ℕ)). HasFed (List ℕ) events c.args.trace.now.frames rest play play) (sym same)
           (none_fed (List ℕ) events c.args.trace.now.frames play),
       subst (λ (pieces : Option ℕ). IfSome pieces (λ made. map command_of_event c.new-behind.result.list.items
-          ≡ behind_send (hosts_of c.args.plans.now) c.args.host made)) (sym c.new-behind.ensures) tt,
+          ≡ events_after_send (hosts_of c.args.plans.now) c.args.host made)) (sym c.new-behind.ensures) tt,
     )
 
 pub loop-frame-preserved : goal.loop-frame-preserved

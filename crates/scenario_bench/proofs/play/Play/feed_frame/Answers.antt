@@ -1,7 +1,7 @@
 use Rattle.std.proofs.Common.{◌∙◌, ap, map}
 use Rattle.std.proofs.lemmas.Result.{IfErr-weaker, err_from_is_err_and, on_ok_weaker}
 use Rattle.scenario.specs.SoFar.{command_of_event, hosts_of}
-use Rattle.scenario_bench.specs.EventLists.{behind_send, fed}
+use Rattle.scenario_bench.specs.EventLists.{events_after_send, fed}
 use Rattle.scenario_bench.specs.PlayedEvents.{HasPlayed, StopsWithin}
 use Rattle.scenario_bench.proofs.PlayedEvents.{behind_stops, send_stops, sent}
 use Rattle.scenario_bench.proofs.play.Play.feed_frame.Goals as goal
@@ -19,7 +19,7 @@ returns-clause-ok c =
     sent hosts c.args.host c.args.frame.now c.as_slice.result.now c.args.self.now c.run_one.new.self c.run.new.self
     c.in_ok-run_one.ensures.ok
     (ap (map command_of_event) c.as_slice.ensures.value ∙ c.in_ok-make.ensures.events
-    ∙ ap (behind_send hosts c.args.host) c.pieces_of.ensures)
+    ∙ ap (events_after_send hosts c.args.host) c.pieces_of.ensures)
     played) c.run.ensures.ok
 
 pub returns-clause-err : goal.returns-clause-err
@@ -30,5 +30,5 @@ returns-clause-err c =
     behind_stops hosts c.args.host c.args.frame.now c.as_slice.result.now c.args.self.now c.run_one.new.self c.run.new.self error
     c.in_ok-run_one.ensures.ok
     (ap (map command_of_event) c.as_slice.ensures.value ∙ c.in_ok-make.ensures.events
-    ∙ ap (behind_send hosts c.args.host) c.pieces_of.ensures)
+    ∙ ap (events_after_send hosts c.args.host) c.pieces_of.ensures)
     stops) c.run.ensures.err

@@ -1,5 +1,5 @@
 use Rattle.std.proofs.Common.{ap, sym, ◌∙◌}
-use Rattle.wire.specs.PlayedCalls.{ResetPlayed, part_in}
+use Rattle.wire.specs.PlayedCalls.{ResetPlayed, kind_in}
 use Rattle.wire.specs.RunObservers.{EventTold}
 use Rattle.wire.specs.Runs.{EventRuns}
 use Rattle.wire.proofs.Running.{call-runs, event-runs, reset-runs}
@@ -16,7 +16,7 @@ returns-in-Call-clause-ok g c =
     record {
       reply = told.reply;
       told = told.told;
-      holds = event-runs c.self.view_is (sym c.of.ensures ∙ ap part_in c.in-Call.is) (call-runs told.holds c.self.invariant);
+      holds = event-runs c.self.view_is (sym c.of.ensures ∙ ap kind_in c.in-Call.is) (call-runs told.holds c.self.invariant);
     }
 
 pub returns-in-Reset-clause-ok : goal.returns-in-Reset-clause-ok
@@ -32,7 +32,7 @@ returns-in-Reset-clause-ok g c =
     (λ told. record {
       reply = told.reply;
       told = told.told;
-      holds = event-runs c.self.view_is (sym c.of.ensures ∙ ap part_in c.in-Reset.is) (reset-runs told.holds c.self.invariant);
+      holds = event-runs c.self.view_is (sym c.of.ensures ∙ ap kind_in c.in-Reset.is) (reset-runs told.holds c.self.invariant);
     }) c.make_reset.ensures.ok
 
 pub returns-in-Tick-clause-ok : goal.returns-in-Tick-clause-ok
@@ -42,7 +42,7 @@ returns-in-Tick-clause-ok g c =
       reply = told.reply;
       told = told.told;
       holds =
-          event-runs c.self.view_is (sym c.of.ensures ∙ ap part_in c.in-Tick.is)
+          event-runs c.self.view_is (sym c.of.ensures ∙ ap kind_in c.in-Tick.is)
           (tick-runs-as c.self.inside.network c.tick.new.network c.in-Tick.tick told.reply c.tick.ensures.hosts c.self.invariant
           told.holds);
     }
