@@ -159,7 +159,8 @@ def bit_places():
             code = text_of(os.pardir, where, "src", source + ".rt")
             flags, _, constant = constant.rpartition("::")
             code = code[code.index(f"impl {flags}: "):] if flags else code
-            shift = re.search(rf"^ *const {constant}(?:: u(?:16|32))? = (?:1|3|0b01|{HEX}) << (\d+);$", code, re.M)
+            head = rf"^ *(?:pub )?const {constant}(?:: u(?:16|32))?"
+            shift = re.search(rf"{head} = (?:1|3|0b01|{HEX}) << (\d+);$", code, re.M)
             yield name, number(place), number(shift.group(1))
 
 
