@@ -107,8 +107,8 @@ def build(with_proof: bool, crates: dict[str, str], checksum: str) -> None:
     builds, waits until that build ends. If the wanted program is there then, does nothing else.
     """
     if not shutil.which(RT):
-        stop(f"the program must be built, and `{RT}` isn't on the PATH: it is the command of the Rattle toolchain, "
-             "kit rattle-kit-13f (README.md)")
+        stop(f"the program must be built, and `{RT}` isn't on the PATH: it is the command of the Rattle toolchain "
+             "(README.md names the kit)")
     with open(os.path.join(sources.BUILD, "lock"), "w") as lock:
         try:
             fcntl.flock(lock, fcntl.LOCK_EX | fcntl.LOCK_NB)
