@@ -76,12 +76,8 @@ fn asked_after(asked: Refusals, command: &Command, before: Refusals, after: Refu
 impl Play {
     /// Initializes the hosts of a plan, with an empty record. If `wires`, the number of traces of wires to write, isn't
     /// 0, the frames that adapters put are recorded during the run. If `events` is true, a line is recorded for each
-    /// event and drain.
-    ///
-    /// # Errors
-    ///
-    /// [`Plan`](BenchError::Plan) if no network can be made of the plan, also if memory is refused for the network.
-    /// [`Memory`](BenchError::Memory) if memory is refused for the record.
+    /// event and drain. Fails with `Plan` if no network can be made of the plan, also if memory is refused for the
+    /// network. Fails with `Memory` if memory is refused for the record.
     fn new(alloc: Global, plan: &Plan, wires: usize, events: bool) -> Result<Play, BenchError>
         ensures ok { IfOk result (HasBegunPlay plan.now.hosts.items) }
         ensures puts { IfOk result (λ play. IsNewRecord wires play.record.puts) }
@@ -108,7 +104,6 @@ impl Play {
         ensures err { IfErr result (StopsWithin (map command_of_event events.now) self.old self.new) }
     {
         let ran = self.lan.play(events, &mut self.record);
-        // Memory was refused during an event, so the record is incomplete.
         if self.record.failed {
             return Err(BenchError::Memory);
         }
@@ -123,8 +118,7 @@ impl Play {
     }
 
     /// Makes room for the frames of a drain, drains a host, and records the frames that the host returned. The number
-    /// of steps, which `Lan::drain` returns, isn't used. If memory is refused before or after the drain, the error is
-    /// `Memory`.
+    /// of its steps isn't used. If memory is refused before or after the drain, the error is `Memory`.
     #[tactic(auto, using(crate::proofs::PlayedEvents::drained))]
     fn drain(&mut self, host: usize) -> Result<(), BenchError>
         ensures ok { OnOk result (HasPlayed (Drains host ∷ []) self.old self.new) }
@@ -261,7 +255,6 @@ impl Play {
     {
         let mut left = commands;
         while let Some((command, later)) = left.split_first() {
-            // The index of this command.
             let place = commands.len().saturating_sub(left.len());
             self.record.line = lines.get(place).copied().unwrap_or(0);
             let before = self.record.log.refusals;
@@ -360,9 +353,9 @@ impl Play {
     }
 
     /// Writes the traces of sockets, and then the traces of wires, each to its sink. `of_sockets` and `of_wires` choose
-    /// the frames of each trace. The bytes of all traces wait in the block of `writer`. There must be one sink for each
-    /// socket, and at most one for each wire. If there is a sink for a wire, the frames that adapters put must be
-    /// recorded (`recorded`). Each sink's count of failures must be below the greatest `u64`. Fails if a sink fails.
+    /// the frames of each trace. There must be one sink for each socket, and at most one for each wire. If there is a
+    /// sink for a wire, the frames that adapters put must be recorded (`recorded`). Each sink's count of failures must
+    /// be below the greatest `u64`. Fails if a sink fails.
     fn write_through<W: Sink>(
         &self,
         of_sockets: &Traces<'_>,
@@ -395,8 +388,7 @@ impl Play {
     }
 
     /// Writes to each sink the frames of its socket, and then to each of `wire_sinks` the frames that were put on its
-    /// wire. The preconditions are those of `write_through`, for the sockets and wires of this plan. If memory is
-    /// refused, nothing was written.
+    /// wire. The preconditions are those of `write_through`. If memory is refused, nothing was written.
     fn write<W: Sink>(
         &self,
         alloc: Global,
@@ -475,7 +467,6 @@ impl Play {
 /// # Errors
 ///
 /// After each of these errors except `Write`, nothing was written.
-///
 /// - [`Plan`](BenchError::Plan) if no network can be made of the plan (E40 to E46), also if memory is refused for the
 ///   network (E45).
 /// - [`Run`](BenchError::Run) (E47) if, before an event, memory is refused for what is recorded of the event, or for

@@ -19,7 +19,7 @@ use std::alloc::Global;
 
 /// Initializes all hosts of a plan, in order, each with its own adapter and memory. Hosts whose plans name the same
 /// wire are on the same wire. The number of a wire is the number of the first host whose plan names it. Each plan must
-/// have a valid configuration, and a link that needs at least one PHY tick (`HasConfigs`).
+/// have a valid configuration, and a link that needs at least one PHY tick or is never up (`HasConfigs`).
 ///
 /// # Errors
 ///
@@ -47,7 +47,7 @@ pub fn bring_up(alloc: Global, plan: &Plan) -> Result<Network, PlanError>
 
 /// Initializes host `number`, and returns the host with its machine. The host isn't connected to a wire yet, so `up`
 /// holds for each number of a wire. Each plan must have a valid configuration, and a link that needs at least one PHY
-/// tick (`HasConfigs`).
+/// tick or is never up (`HasConfigs`).
 ///
 /// An error other than [`Memory`](PlanError::Memory) contains the host's number, as the first host that can't be
 /// initialized. So each earlier host must have a right EEPROM checksum, and a link that can be up (`CanComeUp`).
