@@ -1,5 +1,5 @@
 pub mod Parts
 pub mod PartsWritten
-pub mod Refused
+pub mod HeardOne
 pub mod Writing
 pub mod Ending

@@ -68,10 +68,6 @@ WroteText (Some error) is before after text = (is ≡ Some error) × Keeps befor
 WroteText None None before after text = Appends before after text
 WroteText None (Some error) before after text = WritesPart before after text
 
--- A text was written, or a beginning of the text at an error.
-abbrev pub Writes : (is : Option AnswerError) → (before after : Option (List ℕ)) → Text → Type 0
-Writes is before after text = WroteText None is before after text
-
 -- The line of an answer was written, or at an error a beginning of the line. If writing had stopped before, nothing was written, and the
 -- result is the error that stopped writing.
 abbrev pub Ends : {T : Type 0} → (was : Option AnswerError) → Result T AnswerError → (before after : Option (List ℕ)) → Text → Type 0

@@ -1,9 +1,9 @@
 // The past events that a server keeps, which events the server writes, and the recorder.
 
-ghost use Rattle.std.specs.Prelude.{◌≡◌, ◌++◌, OnOk, if◌then◌else◌};
+ghost use Rattle.std.specs.Prelude.{◌≡◌, OnOk};
 ghost use Rattle.std.specs.Option.{option_map};
-ghost use Rattle.adapter.specs.Outcomes.{put_by, with_frame};
-ghost use Rattle.server_output.specs.Telling.{as_list};
+ghost use Rattle.adapter.specs.Outcomes.{with_frame};
+ghost use Rattle.server_output.specs.Telling.{kept_with};
 ghost use Rattle.step_schedules.specs.Players.{after_playing};
 
 use crate::faults::Faults;
@@ -44,36 +44,23 @@ impl Clone for Kept {
 }
 
 impl Kept {
-    /// Keeps the frame that a step put, until the request `frames` fetches the frame. Keeps nothing if events are
-    /// written, or if the step put no frame. Without such a frame, `frame` has no meaning.
-    pub(crate) fn keep_put(
+    /// Keeps the frame that a step put and the step's fault, until the requests `frames` and `faults` fetch them. Keeps
+    /// nothing if events are written. If the step put no frame, `frame` has no meaning. Fails only if memory was
+    /// refused.
+    pub(crate) fn keep_step(
         &mut self,
         alloc: Global,
         outcome: Outcome<()>,
         frame: &[u8],
+        fault: Option<EngineFault>,
     ) -> Result<(), AllocError>
-        ensures { OnOk result (self.new ≡ record self.old {
-          put = if self.old.events then self.old.put else self.old.put ++ put_by (with_frame frame.now outcome);
-        }) }
+        ensures { OnOk result (self.new ≡ kept_with (with_frame frame.now outcome) fault self.old) }
     {
         if self.events {
             return Ok(());
         }
-        match outcome {
-            Outcome::Put(()) => self.put.push(alloc, frame),
-            _ => Ok(()),
-        }
-    }
-
-    /// Keeps the fault of a step, until the request `faults` fetches the fault. Keeps nothing if events are written, or
-    /// if the step had no fault.
-    pub(crate) fn keep_fault(&mut self, fault: Option<EngineFault>) -> Result<(), AllocError>
-        ensures { OnOk result (self.new ≡ record self.old {
-          faults = if self.old.events then self.old.faults else self.old.faults ++ as_list fault;
-        }) }
-    {
-        if self.events {
-            return Ok(());
+        if let Outcome::Put(()) = outcome {
+            self.put.push(alloc, frame)?;
         }
         match fault {
             Some(fault) => self.faults.push(fault),

@@ -3,10 +3,8 @@
 ghost use Rattle.std.specs.Prelude.{◌≡◌, ◌++◌, ◌-◌, [], IfOk, OnOk, flat_map, length};
 ghost use Rattle.server_output.specs.Texts as texts;
 
-use crate::faults::Faults;
 use access_names::{Engine, EngineFault, Reason};
 use adapter::{Fate, Outcome, StepKind};
-use base64::engine::general_purpose::STANDARD;
 use itoa::Buffer;
 use played_adapter::Frames;
 use std::alloc::{AllocError, Global};
@@ -57,7 +55,7 @@ pub fn fate_word(fate: Fate) -> &'static [u8]
 }
 
 /// Appends parts of a text, in order.
-fn push_parts(text: &mut Vec<u8>, parts: &[&[u8]]) -> Result<(), AllocError>
+pub(crate) fn push_parts(text: &mut Vec<u8>, parts: &[&[u8]]) -> Result<(), AllocError>
     ensures { OnOk result (text.new.items ≡ text.old.items ++ texts.joined_parts parts.now) }
 {
     for part in parts {
@@ -82,7 +80,7 @@ pub fn joined(alloc: Global, parts: &[&[u8]]) -> Result<Vec<u8>, AllocError>
 
 /// If the log is on, appends the line of the log with the parts `said`: `# `, the parts, and a line feed. Otherwise
 /// appends nothing.
-fn push_said(text: &mut Vec<u8>, log: bool, said: &[&[u8]]) -> Result<(), AllocError>
+pub(crate) fn push_said(text: &mut Vec<u8>, log: bool, said: &[&[u8]]) -> Result<(), AllocError>
     ensures { OnOk result (text.new.items ≡ text.old.items ++ texts.said_log log (texts.joined_parts said.now)) }
 {
     if !log {
@@ -91,42 +89,6 @@ fn push_said(text: &mut Vec<u8>, log: bool, said: &[&[u8]]) -> Result<(), AllocE
     text.extend_from_slice(b"# ")?;
     push_parts(text, said)?;
     text.extend_from_slice(b"\n")
-}
-
-/// Returns the text about an event. If the log is on, the text begins with a line of the log, from the parts `said`.
-/// `shown` follows: the lines that don't depend on the log, or no text.
-pub(crate) fn event_text(
-    alloc: Global,
-    log: bool,
-    said: &[&[u8]],
-    shown: &[u8],
-) -> Result<Vec<u8>, AllocError>
-    ensures { IfOk result (λ text. text.items ≡ texts.said_log log (texts.joined_parts said.now) ++ shown.now) }
-{
-    let mut text = Vec::new(alloc);
-    push_said(&mut text, log, said)?;
-    text.extend_from_slice(shown)?;
-    Ok(text)
-}
-
-/// Returns the line of a frame that was put onto the wire, from the frame's hexadecimal digits.
-pub(crate) fn frame_line(alloc: Global, digits: &[u8]) -> Result<Vec<u8>, AllocError>
-    ensures { IfOk result (λ text. text.items ≡ texts.digits_line digits.now) }
-{
-    joined(alloc, &[b"frame ", digits, b"\n"])
-}
-
-/// Returns the line of an offered frame that arrived, from the word of the frame's fate and the frame's hexadecimal
-/// digits.
-#[tactic(auto, unfolding(crate::specs::Texts::digits_arrived))]
-pub(crate) fn arrived_line<'a>(
-    alloc: Global,
-    fate: &'a [u8],
-    digits: &'a [u8],
-) -> Result<Vec<u8>, AllocError>
-    ensures { IfOk result (λ text. text.items ≡ texts.digits_arrived fate.now digits.now) }
-{
-    joined(alloc, &[b"arrived ", fate, b" ", digits, b"\n"])
 }
 
 /// Returns what `restore` prints: a line with the new level of the interrupt line, if the level has changed, and then
@@ -141,15 +103,6 @@ pub fn restored_text(level: Option<bool>) -> &'static [u8]
     }
 }
 
-/// Returns the line of an answer with bytes, in hexadecimal digits.
-#[tactic(auto, unfolding(crate::specs::Texts::bytes_line))]
-pub(crate) fn bytes_line(alloc: Global, bytes: &[u8]) -> Result<Vec<u8>, AllocError>
-    ensures { IfOk result (λ text. text.items ≡ texts.bytes_line bytes.now) }
-{
-    let digits = hex::encode(alloc, bytes)?;
-    joined(alloc, &[b"OK 0x", digits.as_bytes(), b"\n"])
-}
-
 /// Returns the line of an answer with a number, in 16 hexadecimal digits. Allocates nothing. The 16 digits are after
 /// the 5 bytes `OK 0x`, so the `unwrap` can't fail.
 #[tactic(auto, unfolding(crate::specs::Texts::bytes_line, crate::specs::Texts::number_line))]
@@ -159,30 +112,6 @@ pub(crate) fn number_line(number: u64) -> [u8; 22]
     let mut line = *b"OK 0x0000000000000000\n";
     hex::encode_to_slice(number.to_be_bytes(), &mut line[5..21]).unwrap();
     line
-}
-
-/// Returns the line of an answer with a word.
-#[tactic(auto, unfolding(crate::specs::Texts::word_line))]
-pub(crate) fn word_line(alloc: Global, word: &[u8]) -> Result<Vec<u8>, AllocError>
-    ensures { IfOk result (λ text. text.items ≡ texts.word_line word.now) }
-{
-    joined(alloc, &[b"OK ", word, b"\n"])
-}
-
-/// Returns the line of an answer with bytes in base64.
-pub(crate) fn base64_line(alloc: Global, bytes: &[u8]) -> Result<Vec<u8>, AllocError>
-    ensures { IfOk result (λ text. text.items ≡ texts.base64_line bytes.now) }
-{
-    let word = STANDARD.encode(alloc, bytes)?;
-    word_line(alloc, word.as_bytes())
-}
-
-/// Returns the line of an answer with a number in decimal digits.
-pub(crate) fn decimal_line(alloc: Global, number: u64) -> Result<Vec<u8>, AllocError>
-    ensures { IfOk result (λ text. text.items ≡ texts.decimal_line number) }
-{
-    let mut digits = Buffer::new();
-    word_line(alloc, digits.format(number).as_bytes())
 }
 
 /// Removes the oldest frame, if there is one, and appends the word of this frame. If memory is refused, the frame is
@@ -197,8 +126,7 @@ fn push_frame(alloc: Global, text: &mut Vec<u8>, frames: &mut Frames) -> Result<
         return Ok(());
     };
     let digits = hex::encode(alloc, frame.as_slice())?;
-    text.extend_from_slice(b" 0x")?;
-    text.extend_from_slice(digits.as_bytes())
+    push_parts(text, &[b" 0x", digits.as_bytes()])
 }
 
 /// Returns the line of an answer with frames, the oldest first, and removes the frames. If memory is refused, some or
@@ -246,12 +174,9 @@ pub(crate) fn push_fault(text: &mut Vec<u8>, fault: EngineFault) -> Result<(), A
     ensures { OnOk result (text.new.items ≡ text.old.items ++ texts.fault_words fault) }
 {
     let mut digits = Buffer::new();
-    text.extend_from_slice(b" ")?;
-    text.extend_from_slice(engine_word(fault.engine))?;
-    text.extend_from_slice(b" ")?;
-    text.extend_from_slice(digits.format(fault.index).as_bytes())?;
-    text.extend_from_slice(b" ")?;
-    text.extend_from_slice(reason_word(fault.reason))
+    let (engine, reason) = (engine_word(fault.engine), reason_word(fault.reason));
+    let index = digits.format(fault.index).as_bytes();
+    push_parts(text, &[b" ", engine, b" ", index, b" ", reason])
 }
 
 /// Appends the line of a fault.
@@ -261,12 +186,4 @@ pub(crate) fn push_fault_line(text: &mut Vec<u8>, fault: EngineFault) -> Result<
     text.extend_from_slice(b"fault")?;
     push_fault(text, fault)?;
     text.extend_from_slice(b"\n")
-}
-
-/// Returns the line of an answer with faults, the oldest first.
-pub(crate) fn faults_line(alloc: Global, faults: &Faults) -> Result<Vec<u8>, AllocError>
-    ensures { IfOk result (λ text. text.items ≡ texts.faults_line faults.now) }
-{
-    let words = faults.words(alloc)?;
-    joined(alloc, &[b"OK", words.as_slice(), b"\n"])
 }

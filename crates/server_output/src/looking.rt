@@ -6,7 +6,7 @@ ghost use Rattle.server_output.specs.Texts as texts;
 
 use crate::answer_error::AnswerError;
 use crate::lines::joined;
-use crate::output::say;
+use crate::output::say_parts;
 use access_names::RingWords;
 use adapter::StepKind;
 use std::alloc::{AllocError, Global};
@@ -46,21 +46,8 @@ fn enabled_word(kind: StepKind, is_enabled: bool) -> &'static [u8]
     }
 }
 
-/// Returns the line of an answer with the kinds of steps that are enabled, in the order of a cycle.
-#[tactic(auto, unfolding(crate::specs::Texts::enabled_line))]
-fn enabled_line(alloc: Global, enabled: EnabledSteps) -> Result<Vec<u8>, AllocError>
-    ensures { IfOk result (λ text. text.items ≡ texts.enabled_line enabled) }
-{
-    let take = enabled_word(StepKind::TxTake, enabled.tx_take);
-    let put = enabled_word(StepKind::TxPut, enabled.tx_put);
-    let data = enabled_word(StepKind::RxData, enabled.rx_data);
-    let done = enabled_word(StepKind::RxDone, enabled.rx_done);
-    let eeprom = enabled_word(StepKind::EepromTick, enabled.eeprom);
-    let phy = enabled_word(StepKind::PhyTick, enabled.phy);
-    joined(alloc, &[b"OK", take, put, data, done, eeprom, phy, b"\n"])
-}
-
 /// Writes the line of an answer with the kinds of steps that are enabled, in the order of a cycle.
+#[tactic(auto, unfolding(crate::specs::Texts::enabled_line))]
 pub fn say_enabled<W: Write>(
     alloc: Global,
     out: &mut W,
@@ -68,8 +55,17 @@ pub fn say_enabled<W: Write>(
 ) -> Result<(), AnswerError>
     ensures { Says result (W.contents out.old) (W.contents out.new) (texts.enabled_line enabled) }
 {
-    let line = enabled_line(alloc, enabled)?;
-    say(out, line.as_slice())
+    let take = enabled_word(StepKind::TxTake, enabled.tx_take);
+    let put = enabled_word(StepKind::TxPut, enabled.tx_put);
+    let data = enabled_word(StepKind::RxData, enabled.rx_data);
+    let done = enabled_word(StepKind::RxDone, enabled.rx_done);
+    let eeprom = enabled_word(StepKind::EepromTick, enabled.eeprom);
+    let phy = enabled_word(StepKind::PhyTick, enabled.phy);
+    say_parts(
+        alloc,
+        out,
+        &[b"OK", take, put, data, done, eeprom, phy, b"\n"],
+    )
 }
 
 /// Returns a space, `0x`, and a number in 16 hexadecimal digits. The digits are after the 3 bytes ` 0x`, so the
@@ -93,18 +89,6 @@ fn ring_words(alloc: Global, ring: RingWords) -> Result<Vec<u8>, AllocError>
     joined(alloc, &[&base, &bytes, &head, &tail])
 }
 
-/// Returns the line of an answer with the receive ring and the transmit ring.
-fn rings_line(alloc: Global, receive: RingWords, transmit: RingWords) -> Result<Vec<u8>, AllocError>
-    ensures { IfOk result (λ text. text.items ≡ texts.rings_line receive transmit) }
-{
-    let receive = ring_words(alloc, receive)?;
-    let transmit = ring_words(alloc, transmit)?;
-    joined(
-        alloc,
-        &[b"OK", receive.as_slice(), transmit.as_slice(), b"\n"],
-    )
-}
-
 /// Writes the line of an answer with the receive ring and the transmit ring.
 pub fn say_rings<W: Write>(
     alloc: Global,
@@ -114,6 +98,11 @@ pub fn say_rings<W: Write>(
 ) -> Result<(), AnswerError>
     ensures { Says result (W.contents out.old) (W.contents out.new) (texts.rings_line receive transmit) }
 {
-    let line = rings_line(alloc, receive, transmit)?;
-    say(out, line.as_slice())
+    let receive = ring_words(alloc, receive)?;
+    let transmit = ring_words(alloc, transmit)?;
+    say_parts(
+        alloc,
+        out,
+        &[b"OK", receive.as_slice(), transmit.as_slice(), b"\n"],
+    )
 }

@@ -1,20 +1,21 @@
 // Writes texts, and the lines of answers. `Says` states that the text was written, or at an error a beginning of the
 // text.
 
-ghost use Rattle.std.specs.Prelude.{◌≡◌, ◌≤◌, [], IfOk, OnErr, OnOk, length, take};
+ghost use Rattle.std.specs.Prelude.{◌≡◌, ◌≤◌, [], IfOk, IsOk, OnErr, OnOk, length, take};
 ghost use Rattle.std.specs.Io.KnownBytes.{Appends, Keeps};
 ghost use Rattle.server_output.specs.Order.{Says};
 ghost use Rattle.server_output.specs.Texts as texts;
+ghost use Rattle.server_output.specs.Texts.{Text};
 ghost use Rattle.server_requests.specs.Refusals.{refusal_line};
 
 use crate::answer_error::AnswerError;
 use crate::faults::Faults;
-use crate::lines::{
-    base64_line, bytes_line, decimal_line, faults_line, frames_line, number_line, word_line,
-};
+use crate::lines::{frames_line, joined, number_line};
+use base64::engine::general_purpose::STANDARD;
+use itoa::Buffer;
 use played_adapter::Frames;
 use server_requests::Refusal;
-use std::alloc::Global;
+use std::alloc::{AllocError, Global};
 use std::io::{ErrorKind, Write};
 use text::turns;
 
@@ -52,6 +53,31 @@ pub fn say<W: Write>(out: &mut W, text: &[u8]) -> Result<(), AnswerError>
     Err(AnswerError::Write)
 }
 
+/// Writes all of a text, or fails and writes nothing if memory for the text was refused. At another error, a beginning
+/// of the text was written, or nothing.
+pub(crate) fn say_made<W: Write>(
+    out: &mut W,
+    text: Result<Vec<u8>, AllocError>,
+) -> Result<(), AnswerError>
+    ensures text { (whole : Text) → IfOk text (λ made. made.items ≡ whole)
+        → Says result (W.contents out.old) (W.contents out.new) whole }
+    ensures made { OnOk result (IsOk text) }
+{
+    let text = text?;
+    say(out, text.as_slice())
+}
+
+/// Writes the parts of a text, in order. At an error, a beginning of the text was written, or nothing.
+pub(crate) fn say_parts<W: Write>(
+    alloc: Global,
+    out: &mut W,
+    parts: &[&[u8]],
+) -> Result<(), AnswerError>
+    ensures { Says result (W.contents out.old) (W.contents out.new) (texts.joined_parts parts.now) }
+{
+    say_made(out, joined(alloc, parts))
+}
+
 /// Writes the line of a refusal.
 pub fn refuse<W: Write>(out: &mut W, refusal: Refusal) -> Result<(), AnswerError>
     ensures { Says result (W.contents out.old) (W.contents out.new) (refusal_line refusal) }
@@ -60,6 +86,7 @@ pub fn refuse<W: Write>(out: &mut W, refusal: Refusal) -> Result<(), AnswerError
 }
 
 /// Writes the line of an answer with bytes, in hexadecimal digits.
+#[tactic(auto, unfolding(crate::specs::Texts::bytes_line))]
 pub(crate) fn say_bytes<W: Write>(
     alloc: Global,
     out: &mut W,
@@ -67,8 +94,8 @@ pub(crate) fn say_bytes<W: Write>(
 ) -> Result<(), AnswerError>
     ensures { Says result (W.contents out.old) (W.contents out.new) (texts.bytes_line bytes.now) }
 {
-    let line = bytes_line(alloc, bytes)?;
-    say(out, line.as_slice())
+    let digits = hex::encode(alloc, bytes)?;
+    say_parts(alloc, out, &[b"OK 0x", digits.as_bytes(), b"\n"])
 }
 
 /// Writes the line of an answer with a number, in 16 hexadecimal digits.
@@ -79,11 +106,11 @@ pub fn say_number<W: Write>(out: &mut W, number: u64) -> Result<(), AnswerError>
 }
 
 /// Writes the line of an answer with a word.
+#[tactic(auto, unfolding(crate::specs::Texts::word_line))]
 pub fn say_word<W: Write>(alloc: Global, out: &mut W, word: &[u8]) -> Result<(), AnswerError>
     ensures { Says result (W.contents out.old) (W.contents out.new) (texts.word_line word.now) }
 {
-    let line = word_line(alloc, word)?;
-    say(out, line.as_slice())
+    say_parts(alloc, out, &[b"OK ", word, b"\n"])
 }
 
 /// Writes the line of an answer with bytes in base64.
@@ -94,8 +121,8 @@ pub(crate) fn say_base64<W: Write>(
 ) -> Result<(), AnswerError>
     ensures { Says result (W.contents out.old) (W.contents out.new) (texts.base64_line bytes.now) }
 {
-    let line = base64_line(alloc, bytes)?;
-    say(out, line.as_slice())
+    let word = STANDARD.encode(alloc, bytes)?;
+    say_word(alloc, out, word.as_bytes())
 }
 
 /// Writes the line of an answer with a decimal number.
@@ -106,8 +133,8 @@ pub(crate) fn say_decimal<W: Write>(
 ) -> Result<(), AnswerError>
     ensures { Says result (W.contents out.old) (W.contents out.new) (texts.decimal_line number) }
 {
-    let line = decimal_line(alloc, number)?;
-    say(out, line.as_slice())
+    let mut digits = Buffer::new();
+    say_word(alloc, out, digits.format(number).as_bytes())
 }
 
 /// Writes the line of an answer with frames, the oldest first, and removes the frames. At an error, some or all frames
@@ -120,21 +147,23 @@ pub fn say_frames<W: Write>(
     ensures text { Says result (W.contents out.old) (W.contents out.new) (texts.frames_line frames.old) }
     ensures none { OnOk result (frames.new ≡ []) }
 {
-    let line = frames_line(alloc, frames)?;
-    say(out, line.as_slice())
+    say_made(out, frames_line(alloc, frames))
 }
 
 /// Writes the line of an answer with faults, the oldest first.
 pub fn say_faults<W: Write>(alloc: Global, out: &mut W, faults: &Faults) -> Result<(), AnswerError>
     ensures { Says result (W.contents out.old) (W.contents out.new) (texts.faults_line faults.now) }
 {
-    let line = faults_line(alloc, faults)?;
-    say(out, line.as_slice())
+    let words = faults.words(alloc)?;
+    say_parts(alloc, out, &[b"OK", words.as_slice(), b"\n"])
 }
 
 /// Flushes the output. The bytes that were written don't change, even at an error.
 pub fn send<W: Write>(out: &mut W) -> Result<(), AnswerError>
     ensures { Keeps (W.contents out.old) (W.contents out.new) }
 {
-    out.flush().map_err(|_| AnswerError::Write)
+    match out.flush() {
+        Ok(()) => Ok(()),
+        Err(_) => Err(AnswerError::Write),
+    }
 }

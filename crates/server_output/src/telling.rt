@@ -1,19 +1,17 @@
 // The observer that writes lines.
 
-ghost use Rattle.std.specs.Prelude.{◌≡◌, ◌++◌, [], IfOk, None, OnOk, Some, flat_map, if◌then◌else◌};
+ghost use Rattle.std.specs.Prelude.{◌≡◌, ◌++◌, [], IfOk, OnOk, Some, flat_map, true};
 ghost use Rattle.adapter.specs.Outcomes.{put_by, with_frame};
 ghost use Rattle.played_adapter.specs.Told as told;
 ghost use Rattle.server_output.specs.Answers.{IsSized, line_of};
-ghost use Rattle.server_output.specs.Telling.{Ends, Writes, kept_with, as_list, told_text};
-ghost use Rattle.server_output.specs.Texts.{fault_line, frame_line, line_told, said_log};
+ghost use Rattle.server_output.specs.Telling.{Ends, WroteText, step_shown, told_text};
+ghost use Rattle.server_output.specs.Texts.{frame_line, line_told, said_log};
 
 use crate::answer_error::AnswerError;
 use crate::answers::{Answer, say_answer};
 use crate::kept::Kept;
-use crate::lines::{
-    arrived_line, event_text, fate_word, frame_line, kind_word, outcome_word, push_fault_line,
-};
-use crate::output::say;
+use crate::lines::{fate_word, kind_word, outcome_word, push_fault_line, push_parts, push_said};
+use crate::output::{say, say_made, say_parts};
 use access_names::EngineFault;
 use adapter::{Fate, Outcome, StepKind};
 use played_adapter::Observer;
@@ -51,85 +49,95 @@ fn level_text(level: bool) -> &'static [u8]
     }
 }
 
+/// Appends the line of the frame that a step put, if the step put a frame.
+fn push_put(
+    alloc: Global,
+    text: &mut Vec<u8>,
+    outcome: Outcome<()>,
+    frame: &[u8],
+) -> Result<(), AllocError>
+    ensures { OnOk result (text.new.items ≡ text.old.items
+        ++ flat_map frame_line (put_by (with_frame frame.now outcome))) }
+{
+    let Outcome::Put(()) = outcome else {
+        return Ok(());
+    };
+    let digits = hex::encode(alloc, frame)?;
+    push_parts(text, &[b"frame ", digits.as_bytes(), b"\n"])
+}
+
+/// Appends the line of the frame that a step put, and the line of the step's fault, if there are any.
+fn push_shown(
+    alloc: Global,
+    text: &mut Vec<u8>,
+    outcome: Outcome<()>,
+    frame: &[u8],
+    fault: Option<EngineFault>,
+) -> Result<(), AllocError>
+    ensures { OnOk result (text.new.items ≡ text.old.items ++ step_shown true (with_frame frame.now outcome) fault) }
+{
+    push_put(alloc, text, outcome, frame)?;
+    match fault {
+        Some(fault) => push_fault_line(text, fault),
+        None => Ok(()),
+    }
+}
+
+/// Returns the text about a step. It begins with the step's line of the log, if the log is on. If events are written,
+/// the lines of the step's frame and of the step's fault follow, if there are any.
+fn step_text(
+    alloc: Global,
+    log: bool,
+    events: bool,
+    kind: StepKind,
+    outcome: Outcome<()>,
+    frame: &[u8],
+    fault: Option<EngineFault>,
+) -> Result<Vec<u8>, AllocError>
+    // `[]`: the text about a step doesn't contain the line of the request.
+    ensures { IfOk result (λ text. text.items
+        ≡ told_text log events [] (told.Stepped kind (with_frame frame.now outcome) fault)) }
+{
+    let mut text = Vec::new(alloc);
+    push_said(
+        &mut text,
+        log,
+        &[b"step ", kind_word(kind), b" -> ", outcome_word(outcome)],
+    )?;
+    if events {
+        push_shown(alloc, &mut text, outcome, frame, fault)?;
+    }
+    Ok(text)
+}
+
+/// Returns the text about the arrival of an offered frame. It begins with the arrival's line of the log, if the log is
+/// on. If events are written, the line of the arrival with the fate follows.
+#[tactic(auto, unfolding(crate::specs::Texts::digits_arrived))]
+fn arrival_text(
+    alloc: Global,
+    log: bool,
+    events: bool,
+    frame: &[u8],
+    fate: Fate,
+) -> Result<Vec<u8>, AllocError>
+    // `[]`: the text about this arrival doesn't contain the line of the request.
+    ensures { IfOk result (λ text. text.items ≡ told_text log events [] (told.OfferedArrived frame.now fate)) }
+{
+    // The line of the log and the line of the arrival contain the same digits.
+    let digits = hex::encode(alloc, frame)?;
+    let mut text = Vec::new(alloc);
+    push_said(&mut text, log, &[b"arrive ", digits.as_bytes()])?;
+    if events {
+        let word = fate_word(fate);
+        push_parts(
+            &mut text,
+            &[b"arrived ", word, b" ", digits.as_bytes(), b"\n"],
+        )?;
+    }
+    Ok(text)
+}
+
 impl<'a, W: Write> Lines<'a, W> {
-    /// Returns the line of the frame that a step put, or an empty text if the step put no frame or events aren't
-    /// written.
-    fn put_text(&self, outcome: Outcome<()>, frame: &[u8]) -> Result<Vec<u8>, AllocError>
-        ensures { IfOk result (λ text. text.items
-            ≡ (if self.now.kept.now.events then flat_map frame_line (put_by (with_frame frame.now outcome)) else [])) }
-    {
-        if !self.kept.events {
-            return Ok(Vec::new(self.alloc));
-        }
-        let Outcome::Put(()) = outcome else {
-            return Ok(Vec::new(self.alloc));
-        };
-        let digits = hex::encode(self.alloc, frame)?;
-        frame_line(self.alloc, digits.as_bytes())
-    }
-
-    /// Appends the line of a fault, if there is a fault and events are written.
-    fn push_fault(&self, text: &mut Vec<u8>, fault: Option<EngineFault>) -> Result<(), AllocError>
-        ensures { OnOk result (text.new.items ≡ text.old.items
-            ++ (if self.now.kept.now.events then flat_map fault_line (as_list fault) else [])) }
-    {
-        if !self.kept.events {
-            return Ok(());
-        }
-        match fault {
-            Some(fault) => push_fault_line(text, fault),
-            None => Ok(()),
-        }
-    }
-
-    /// Returns the text about a step. It begins with the step's line of the log, if the log is on. If events are
-    /// written, the lines of the step's frame and of the step's fault follow, if there are any.
-    fn step_text(
-        &self,
-        kind: StepKind,
-        outcome: Outcome<()>,
-        frame: &[u8],
-        fault: Option<EngineFault>,
-    ) -> Result<Vec<u8>, AllocError>
-        ensures { IfOk result (λ text. text.items ≡ told_text self.now.kept.now.log self.now.kept.now.events
-            self.now.said.now (told.Stepped kind (with_frame frame.now outcome) fault)) }
-    {
-        let mut shown = self.put_text(outcome, frame)?;
-        self.push_fault(&mut shown, fault)?;
-        let said: [&[u8]; 4] = [b"step ", kind_word(kind), b" -> ", outcome_word(outcome)];
-        event_text(self.alloc, self.kept.log, &said, shown.as_slice())
-    }
-
-    /// Returns the text about the arrival of an offered frame. It begins with the arrival's line of the log, if the log
-    /// is on. If events are written, the line of the arrival with the fate follows.
-    fn arrival_text(&self, frame: &[u8], fate: Fate) -> Result<Vec<u8>, AllocError>
-        ensures { IfOk result (λ text. text.items ≡ told_text self.now.kept.now.log self.now.kept.now.events
-            self.now.said.now (told.OfferedArrived frame.now fate)) }
-    {
-        // The line of the log and the line of the arrival contain the same digits.
-        let text = hex::encode(self.alloc, frame)?;
-        let digits = text.as_bytes();
-        let said: [&[u8]; 2] = [b"arrive ", digits];
-        if !self.kept.events {
-            return event_text(self.alloc, self.kept.log, &said, &[]);
-        }
-        let shown = arrived_line(self.alloc, fate_word(fate), digits)?;
-        event_text(self.alloc, self.kept.log, &said, shown.as_slice())
-    }
-
-    /// Writes a text. If this fails, stores the error in `stopped`, so writing stops. Writing must not have stopped
-    /// before.
-    fn write(&mut self, text: &[u8])
-        requires { self.old.stopped ≡ None }
-        ensures state { self.new ≡ record self.old { out = self.new.out; stopped = self.new.stopped } }
-        ensures lent { self.new.out.ghost_name ≡ self.old.out.ghost_name }
-        ensures text { Writes self.new.stopped (W.contents self.old.out.now) (W.contents self.new.out.now) text.now }
-    {
-        if let Err(error) = say(self.out, text) {
-            self.stopped = Some(error);
-        }
-    }
-
     /// Ends the text about a request: writes the line of the answer. If writing has stopped, writes nothing, and
     /// returns the error that stopped writing. Doesn't store an error.
     ///
@@ -148,37 +156,15 @@ impl<'a, W: Write> Lines<'a, W> {
     }
 
     /// Writes the request's line of the log (`said`), if the log is on. The observer does this when it is told of the
-    /// request's access or arrival. Stores the error if this fails. Writing must not have stopped before.
+    /// request's access or arrival. Stores the error if this fails. Writes nothing if writing has stopped.
     fn say_request(&mut self)
-        requires { self.old.stopped ≡ None }
         ensures state { self.new ≡ record self.old { out = self.new.out; stopped = self.new.stopped } }
         ensures lent { self.new.out.ghost_name ≡ self.old.out.ghost_name }
-        ensures text { Writes self.new.stopped (W.contents self.old.out.now) (W.contents self.new.out.now)
-            (said_log self.old.kept.now.log self.old.said.now) }
+        ensures text { WroteText self.old.stopped self.new.stopped (W.contents self.old.out.now)
+            (W.contents self.new.out.now) (said_log self.old.kept.now.log self.old.said.now) }
     {
-        if !self.kept.log {
-            return;
-        }
-        // `true`: the log is on. `&[]`: no other line follows.
-        match event_text(self.alloc, true, &[self.said], &[]) {
-            Ok(text) => self.write(text.as_slice()),
-            Err(_) => self.stopped = Some(AnswerError::Memory),
-        }
-    }
-
-    /// Keeps the frame that a step put and the step's fault, if events aren't written. Stores the error if this fails.
-    /// Writing must not have stopped before.
-    fn keep_step(&mut self, outcome: Outcome<()>, frame: &[u8], fault: Option<EngineFault>)
-        requires { self.old.stopped ≡ None }
-        ensures state { self.new ≡ record self.old { kept = self.new.kept; stopped = self.new.stopped } }
-        ensures lent { self.new.kept.ghost_name ≡ self.old.kept.ghost_name }
-        ensures kept { self.new.stopped ≡ None
-            → self.new.kept.now ≡ kept_with (with_frame frame.now outcome) fault self.old.kept.now }
-    {
-        // Both calls fail only if memory is refused.
-        let kept = self.kept.keep_put(self.alloc, outcome, frame);
-        if kept.is_err() || self.kept.keep_fault(fault).is_err() {
-            self.stopped = Some(AnswerError::Memory);
+        if self.kept.log && self.stopped.is_none() {
+            self.stopped = say_parts(self.alloc, self.out, &[b"# ", self.said, b"\n"]).err();
         }
     }
 }
@@ -216,21 +202,26 @@ impl<'a, W: Write> Observer for Lines<'a, W> {
         if self.stopped.is_some() {
             return;
         }
-        self.keep_step(outcome, frame, fault);
-        if self.stopped.is_some() {
+        let kept = self.kept.keep_step(self.alloc, outcome, frame, fault);
+        if kept.is_err() {
+            self.stopped = Some(AnswerError::Memory);
             return;
         }
-        match self.step_text(kind, outcome, frame, fault) {
-            Ok(text) => self.write(text.as_slice()),
-            Err(_) => self.stopped = Some(AnswerError::Memory),
-        }
+        let text = step_text(
+            self.alloc,
+            self.kept.log,
+            self.kept.events,
+            kind,
+            outcome,
+            frame,
+            fault,
+        );
+        self.stopped = say_made(self.out, text).err();
     }
 
     /// Writes the request's line of the log, if the log is on. The request's answer contains the fate.
     fn arrived(&mut self, _frame: &[u8], _fate: Fate) {
-        if self.stopped.is_none() {
-            self.say_request();
-        }
+        self.say_request();
     }
 
     /// Writes the text about the arrival of an offered frame.
@@ -238,38 +229,28 @@ impl<'a, W: Write> Observer for Lines<'a, W> {
         if self.stopped.is_some() {
             return;
         }
-        match self.arrival_text(frame, fate) {
-            Ok(text) => self.write(text.as_slice()),
-            Err(_) => self.stopped = Some(AnswerError::Memory),
-        }
+        let text = arrival_text(self.alloc, self.kept.log, self.kept.events, frame, fate);
+        self.stopped = say_made(self.out, text).err();
     }
 
     /// Writes the request's line of the log, if the log is on. The request's answer contains the value.
     fn read(&mut self, _offset: u32, _value: u32) {
-        if self.stopped.is_none() {
-            self.say_request();
-        }
+        self.say_request();
     }
 
     /// Writes the request's line of the log, if the log is on. The line also contains what was written.
     fn written(&mut self, _offset: u32, _value: u32) {
-        if self.stopped.is_none() {
-            self.say_request();
-        }
+        self.say_request();
     }
 
     /// Writes the request's line of the log, if the log is on. The request's answer contains the bytes.
     fn loaded(&mut self, _address: u64, _bytes: &[u8]) {
-        if self.stopped.is_none() {
-            self.say_request();
-        }
+        self.say_request();
     }
 
     /// Writes the request's line of the log, if the log is on. The line also contains what was stored.
     fn stored(&mut self, _address: u64, _bytes: &[u8]) {
-        if self.stopped.is_none() {
-            self.say_request();
-        }
+        self.say_request();
     }
 
     /// Records the action, if there is a recorder. Writes nothing.
@@ -285,7 +266,7 @@ impl<'a, W: Write> Observer for Lines<'a, W> {
     /// Writes the line that reports the new level, also if the log and events are off.
     fn line(&mut self, level: bool) {
         if self.stopped.is_none() {
-            self.write(level_text(level));
+            self.stopped = say(self.out, level_text(level)).err();
         }
     }
 }

@@ -1,7 +1,7 @@
 use Rattle.server_output.proofs.PartsWritten.{nothing_said, says_stop}
 use Rattle.server_output.proofs.output.say_bytes.Goals as goal
 
-pub returns-in_err-line : goal.returns-in_err-line
-returns-in_err-line g c =
+pub returns-in_err-digits : goal.returns-in_err-digits
+returns-in_err-digits g c =
     let contents = g.W.Write.contents c.args.out.now in
     says_stop c.from_residual.result _ contents contents c.from_residual.ensures.0 (nothing_said _ contents)

@@ -1,12 +1,14 @@
-use Rattle.std.proofs.Common.{ap, rules}
-use Rattle.server_output.proofs.Refused.{heard_refused}
+use Rattle.std.proofs.Common.{refl, rules}
+use Rattle.server_output.proofs.HeardOne.{heard_refused, heard_step}
 use Rattle.server_output.proofs.telling.LinesObserver.stepped.Goals as goal
 
-pub returns-in-Err : goal.returns-in-Err
-returns-in-Err g c =
-    let same = c.keep_step.ensures.state in (
-      ap (λ lines. lines.out.ghost_name) same,
-      c.keep_step.ensures.lent,
-      heard_refused _ _ _ _ _ _ _ _ _ (ap (λ lines. lines.said.now) same) (ap (λ lines. g.W.Write.contents lines.out.now) same)
-          (search rules),
-    )
+pub returns-then-is_err : goal.returns-then-is_err
+returns-then-is_err g c = (refl, refl, heard_refused _ _ _ _ _ _ _ _ _ refl refl (search rules))
+
+pub returns : goal.returns
+returns g c = (
+  refl,
+  refl,
+  heard_step c.keep_step-kept.result c.say_made.result _ _ _ _ _ _ _ _ _ _ (search rules) c.keep_step-kept.ensures (search rules)
+      c.err-self.ensures.value (c.say_made.ensures.text _ c.step_text-text.ensures),
+)
