@@ -88,28 +88,11 @@ pub fn drive<B: WatchedBus, S: Sink>(
     ensures drives { IfOk result
         (λ counts. Drives B.Bus rings.now frames.now counts (S.taken sink.old) (S.taken sink.new) bus.old bus.new) }
 {
-    let writer = RecordWriter::new(alloc, Unit::Micros)?;
-    let host = bring_up(alloc, bus, rings)?;
     let mut exchange = Exchange {
-        host,
-        writer,
+        writer: RecordWriter::new(alloc, Unit::Micros)?,
+        host: bring_up(alloc, bus, rings)?,
         received: 0,
         quiet: 0,
     };
-    let handed = exchange.send_all(bus, sink, frames, limits.idle)?;
-    // The turns of `wait` are counted from 0, also if `send_all` ended because the transmit ring remained full.
-    exchange.quiet = 0;
-    exchange.wait(bus, sink, limits)?;
-    exchange.writer.flush(sink)?;
-    if let Some(fault) = bus.fault() {
-        return Err(DriveError::Bus(fault));
-    }
-    let (missed, is_exact) = exchange.host.missed();
-    Ok(DriveCounts {
-        sent: handed.sent,
-        illegal: handed.illegal,
-        received: exchange.received,
-        missed,
-        is_exact,
-    })
+    exchange.run(bus, sink, frames, limits)
 }

@@ -4,9 +4,9 @@ ghost use Rattle.std.specs.Prelude.{◌≡◌, ◌<◌, ◌≤◌, ◌+◌, [], 
 ghost use Rattle.descriptors.specs.Frames.{is_sendable};
 ghost use Rattle.dma_memory.specs.Layout.{size_of};
 ghost use Rattle.bus.specs.Keeping.{Keeps};
-ghost use Rattle.drive.specs.Exchanging.{Exchanges, SendsFront, accepted_of, moment_of, saturated};
+ghost use Rattle.drive.specs.Exchanging.{Exchanges, SendsFront, accepted_of, exchange_at, moment_of, saturated};
 
-use crate::{DriveError, DriveLimits, WatchedBus};
+use crate::{DriveCounts, DriveError, DriveLimits, WatchedBus};
 use descriptors::{LONGEST_LEGAL, is_sendable};
 use driver::SendError;
 use packet_socket::Host;
@@ -59,31 +59,6 @@ impl Handed {
 }
 
 impl Exchange {
-    /// Takes the oldest frame that waits for the socket, and appends it to the trace. Returns whether a frame waited.
-    /// Fails if the sink failed.
-    fn take_frame<B: WatchedBus, S: Sink>(
-        &mut self,
-        bus: &mut B,
-        sink: &mut S,
-    ) -> Result<bool, WriteError>
-        requires memory { size_of self.old.host.driver.layout ≤ B.Bus.extent bus.old }
-        requires countable { S.failures sink.old < u64.MAX }
-        ensures keeps { Keeps B.Bus bus.old bus.new }
-        ensures exchanges { OnOk result (Exchanges B.Bus []
-            (moment_of bus.old self.old (S.taken sink.old)) (moment_of bus.new self.new (S.taken sink.new))) }
-        ensures failures { OnOk result (S.failures sink.new ≡ S.failures sink.old) }
-    {
-        let mut frame = [0; LONGEST_LEGAL];
-        // The host has this socket, so an error means that no frame waits.
-        let Ok(size) = self.host.recv(bus, SOCKET, &mut frame) else {
-            return Ok(false);
-        };
-        self.writer
-            .write(sink, Unit::Micros, self.received, &frame[..size])?;
-        self.received = self.received.saturating_add(1);
-        Ok(true)
-    }
-
     /// Takes all frames that wait for the socket, and appends them to the trace. Fails if the sink failed.
     fn take_all<B: WatchedBus, S: Sink>(
         &mut self,
@@ -97,11 +72,16 @@ impl Exchange {
             (moment_of bus.old self.old (S.taken sink.old)) (moment_of bus.new self.new (S.taken sink.new))) }
         ensures failures { OnOk result (S.failures sink.new ≡ S.failures sink.old) }
     {
+        let mut frame = [0; LONGEST_LEGAL];
         // The loop has at most 2^64 - 1 turns, so that its end can be proved.
         for _count in turns() {
-            if !self.take_frame(bus, sink)? {
+            // The host has this socket, so an error means that no frame waits.
+            let Ok(size) = self.host.recv(bus, SOCKET, &mut frame) else {
                 break;
-            }
+            };
+            self.writer
+                .write(sink, Unit::Micros, self.received, &frame[..size])?;
+            self.received = self.received.saturating_add(1);
         }
         Ok(())
     }
@@ -252,5 +232,42 @@ impl Exchange {
             self.turn(bus, sink)?;
         }
         Ok(())
+    }
+
+    /// Sends the frames of a list (`send_all`), waits for frames (`wait`), and writes the bytes that wait for the sink.
+    /// Fails if a turn fails, the sink fails, or the bus has stopped.
+    pub(crate) fn run<B: WatchedBus, S: Sink>(
+        &mut self,
+        bus: &mut B,
+        sink: &mut S,
+        frames: &Frames,
+        limits: &DriveLimits,
+    ) -> Result<DriveCounts, DriveError>
+        requires memory { size_of self.old.host.driver.layout ≤ B.Bus.extent bus.old }
+        requires countable { S.failures sink.old < u64.MAX }
+        ensures keeps { Keeps B.Bus bus.old bus.new }
+        ensures sends { IfOk result (λ counts. SendsFront B.Bus frames.now counts.sent counts.illegal
+            (moment_of bus.old self.old (S.taken sink.old))
+            (exchange_at bus.new self.new.host (S.taken sink.new) counts.received)) }
+        ensures failures { OnOk result (S.failures sink.new ≡ S.failures sink.old) }
+        ensures missed { IfOk result (λ counts. counts.missed ≡ self.new.host.driver.missed) }
+        ensures exact { IfOk result (λ counts. counts.is_exact ≡ self.new.host.driver.exact) }
+    {
+        let handed = self.send_all(bus, sink, frames, limits.idle)?;
+        // The turns of `wait` are counted from 0, also if `send_all` ended because the transmit ring remained full.
+        self.quiet = 0;
+        self.wait(bus, sink, limits)?;
+        self.writer.flush(sink)?;
+        if let Some(fault) = bus.fault() {
+            return Err(DriveError::Bus(fault));
+        }
+        let (missed, is_exact) = self.host.missed();
+        Ok(DriveCounts {
+            sent: handed.sent,
+            illegal: handed.illegal,
+            received: self.received,
+            missed,
+            is_exact,
+        })
     }
 }

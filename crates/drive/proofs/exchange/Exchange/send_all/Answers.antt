@@ -1,4 +1,5 @@
 use Rattle.std.proofs.Common.{[], ◌∙◌, refl}
+use Rattle.bus.proofs.Keeping.{keeps-on}
 use Rattle.drive.specs.Exchanging.{accepted_of, moment_of}
 use Rattle.drive.proofs.Exchanges.{still-fits}
 use Rattle.drive.proofs.SentFrames.{sends-more, sends-start, sends-then}
@@ -11,6 +12,15 @@ loop-frame-init g c = record {
   so_far = sends-start g.B.Bus g.met.B.Bus.composes c.args.frames.now c.into_iter-frame-iterator.result
       (moment_of c.args.bus.now c.args.self.now (g.S.Sink.taken c.args.sink.now))
       (c.into_iter-frame-iterator.ensures.into_iter_gives ∙ c.iter-frame-items.ensures);
+}
+
+pub send-requires-clause-countable : goal.send-requires-clause-countable
+send-requires-clause-countable g c = rw c.loop-frame.invariant.failures c.requires.countable
+
+pub turn_if_asserted-requires : goal.turn_if_asserted-requires
+turn_if_asserted-requires g c = record {
+  memory = still-fits g.B.Bus _ _ _ c.in_ok-send.ensures.exchanges c.loop-frame.invariant.memory;
+  countable = rw (c.in_ok-send.ensures.failures, c.loop-frame.invariant.failures) c.requires.countable;
 }
 
 pub loop-frame-preserved : goal.loop-frame-preserved
@@ -27,10 +37,33 @@ loop-frame-preserved g c =
           one two.exchanges c.count.ensures.sent c.count.ensures.illegal;
     }
 
-pub returns-then-not-branch-clause-sends : goal.returns-then-not-branch-clause-sends
-returns-then-not-branch-clause-sends g c =
-    let l = c.loop-frame in (
-      l.frame-iterator,
-      sends-then g.B.Bus g.met.B.Bus.composes c.args.frames.now l.frame-iterator l.handed.sent l.handed.illegal _ _ _
-          l.invariant.so_far (rw c.if-not-branch.true at c.in_ok-send.ensures.exchanges),
-    )
+pub returns-in_err-send-clause-keeps : goal.returns-in_err-send-clause-keeps
+returns-in_err-send-clause-keeps g c = keeps-on g.B.Bus g.met.B.Bus.composes.lent_stays_on c.args.bus.now c.loop-frame.bus c.send.new.bus
+    c.loop-frame.invariant.so_far.exchanges.keeps c.send.ensures.keeps
+
+pub returns-in_err-turn_if_asserted-clause-keeps : goal.returns-in_err-turn_if_asserted-clause-keeps
+returns-in_err-turn_if_asserted-clause-keeps g c =
+    let joined = keeps-on g.B.Bus g.met.B.Bus.composes.lent_stays_on in
+    joined c.args.bus.now c.send.new.bus c.turn_if_asserted.new.bus
+    (joined c.args.bus.now c.loop-frame.bus c.send.new.bus c.loop-frame.invariant.so_far.exchanges.keeps c.send.ensures.keeps)
+    c.turn_if_asserted.ensures.keeps
+
+pub returns-in-None : goal.returns-in-None
+returns-in-None g c =
+    let l = c.loop-frame in
+    record {
+      keeps = l.invariant.so_far.exchanges.keeps;
+      sends = (l.frame-iterator, l.invariant.so_far);
+      failures = l.invariant.failures;
+    }
+
+pub returns-then-not-branch : goal.returns-then-not-branch
+returns-then-not-branch g c =
+    let l = c.loop-frame in
+    let all = sends-then g.B.Bus g.met.B.Bus.composes c.args.frames.now l.frame-iterator l.handed.sent l.handed.illegal _ _ _
+    l.invariant.so_far (rw c.if-not-branch.true at c.in_ok-send.ensures.exchanges) in
+    record {
+      keeps = all.exchanges.keeps;
+      sends = (l.frame-iterator, all);
+      failures = c.in_ok-send.ensures.failures ∙ l.invariant.failures;
+    }
