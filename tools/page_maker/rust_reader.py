@@ -9,7 +9,7 @@ from .texts import angle_end, closing, comment_text, masked, split_top, turn
 ITEM = re.compile(r"""(?P<ghost>ghost\s+)?(?P<vis>pub(?:\s*\([^)]*\))?\s+)?
     (?P<unsafe>(?:(?:const|unsafe|extern|default)\s+)*(?=fn\b|impl\b|trait\b))?
     (?P<kw>(?:fn|struct|enum|trait|impl|type|const|static|mod|use)\b|[A-Za-z_]\w*!|[A-Za-z_][\w-]*)""", re.X)
-CLAUSE = re.compile(r"\s*(requires|ensures|decreases|terminates)\b\s*(\w+)?\s*\{")
+CLAUSE = re.compile(r"\s*(requires|ensures|decreases|terminates)\b\*?\s*(\w+)?\s*\{")
 BLANK = re.compile(r"\s+|;|,")
 MEMBER = re.compile(r"(?:\s|,|#\[[^\]]*\])*(?P<vis>pub(?:\([^)]*\))?\s+)?(?:ghost\s+)?(?P<name>[A-Za-z_]\w*)")
 

@@ -1,4 +1,4 @@
--- Cycles after an access or an arrival, and plain accesses.
+-- Cycles after an access or an arrival, plain accesses, and calls on the adapter in a handle.
 use Rattle.std.proofs.Common.{◌≡◌, ◌++◌, ◌∷◌, [], ◌∙◌, ◌&&◌, ℕ, Bool, List, Option, None, Some, ap, false, if◌then◌else◌, length}
 use Rattle.std.proofs.Common.{nat_lt, refl, subst, sym, true}
 use Rattle.std.proofs.lemmas.List.{append-nil}
@@ -14,9 +14,12 @@ use Rattle.access_names.specs.Names.{target_text}
 use Rattle.nic82540em.specs.Calls.{Follows, HeardByEvents, IsPlain, PacedIf, PacedOr}
 use Rattle.nic82540em.specs.Events.{HearsBetween, event_of, hears, keeps}
 use Rattle.nic82540em.specs.EventsLaws.{heard_joins}
+use Rattle.nic82540em.specs.Handles.{IsSound, OnAdapter}
+use Rattle.nic82540em.specs.Lending.{with_adapter}
 use Rattle.nic82540em.specs.Schedules.{AfterMeeting, MeetsIf, MeetsName}
 use Rattle.nic82540em.specs.declared.events.Events.{Events}
 use Rattle.nic82540em.specs.declared.events.KeptEvent.{KeptEvent}
+use Rattle.nic82540em.specs.declared.handle.Nic.{Nic}
 use Rattle.nic82540em.specs.declared.watched.WatchedAdapter.{WatchedAdapter}
 
 laws : ComposesHeard HearsBetween
@@ -91,4 +94,15 @@ plain heard now later comes made before target Happens a b is_plain tells same k
     },
     kept_agenda,
   );
+}
+
+-- A handle holds the adapter `a`, and a call changes `a` to `b`.
+pub on_held : (Does : WatchedAdapter → WatchedAdapter → Type 0) (Refused : Type 0) (nic : Nic) (a b : WatchedAdapter)
+    → a ≡ nic.owner.value → IsSound nic → nic.held ≡ true → Does a b
+    → OnAdapter Does Refused nic (record nic { owner = with_adapter nic.owner b })
+on_held Does Refused nic a b is_value sound held does = record {
+  sound = sound;
+  held = refl;
+  done = λ _. subst (λ (before : WatchedAdapter). Does before b) is_value does;
+  none = λ free. absurd (cc);
 }

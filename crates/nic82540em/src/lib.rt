@@ -34,6 +34,7 @@ pub use looking::{
     nic82540em_digest, nic82540em_line, nic82540em_peek, nic82540em_possible,
     nic82540em_state_digest, nic82540em_waiting_received, nic82540em_waiting_transmit,
 };
+use numbers::{is_receive_share, link_with};
 pub use numbers::{AdapterOptions, REFUSED};
 pub use playing::{
     nic82540em_arrive, nic82540em_begin_round, nic82540em_choose, nic82540em_events,
@@ -57,15 +58,16 @@ pub extern "C" fn nic82540em_new(alloc: Global, nic: &mut Nic, options: &Adapter
     ensures new { result ≡ true → IsNew options.now nic.new.owner.value }
     ensures refused { result ≡ false → nic.new ≡ nic.old }
 {
-    if nic.held {
+    if nic.held || !is_receive_share(options.receive_kilobytes) {
         return false;
     }
-    let Some(adapter) = calls::new(alloc, options) else {
+    let Some(link) = link_with(options.link) else {
         return false;
     };
-    nic.owner.put(adapter);
-    nic.held = true;
-    true
+    match calls::with_link(alloc, options, link) {
+        Ok(adapter) => nic.hold(alloc, adapter).is_ok(),
+        Err(_refused) => false,
+    }
 }
 
 /// Frees the adapter, if the handle holds one. Otherwise nothing changes.
@@ -102,14 +104,8 @@ pub extern "C" fn nic82540em_copy(alloc: Global, nic: &mut Nic, into: &mut Nic) 
     if !nic.held || into.held {
         return false;
     }
-    // To be read, the adapter is taken out of its handle, and put back.
-    let adapter = nic.owner.take(alloc);
-    let copied = calls::copy(alloc, &adapter);
-    nic.owner.put(adapter);
-    let Some(copied) = copied else {
-        return false;
-    };
-    into.owner.put(copied);
-    into.held = true;
-    true
+    match calls::copy(nic.owner.adapter()) {
+        Ok(copied) => into.hold(alloc, copied).is_ok(),
+        Err(_refused) => false,
+    }
 }

@@ -9,29 +9,29 @@ ghost use Rattle.nic82540em.specs.Digests.{state_digest_of};
 ghost use Rattle.nic82540em.specs.Handles.{IsSound, OnlyLooks, OnAdapter};
 
 use crate::handle::{Nic, on_adapter};
-use crate::{calls, possible};
-use std::alloc::Global;
+use crate::possible;
+use std::hash::{FoldHasher, Hasher};
 
 /// Returns whether the interrupt line is asserted. Returns `false` if the handle holds no adapter.
 #[unsafe(no_mangle)]
-pub extern "C" fn nic82540em_line(alloc: Global, nic: &mut Nic) -> bool
+pub extern "C" fn nic82540em_line(nic: &mut Nic) -> bool
     requires sound { IsSound nic.old }
     ensures line { OnAdapter (OnlyLooks (λ a. result ≡ is_asserted a.player.machine.world.adapter))
         (result ≡ false) nic.old nic.new }
 {
-    on_adapter!(alloc, nic, false, |adapter| adapter.player.machine.line())
+    on_adapter!(nic, false, |adapter| adapter.player.machine.line())
 }
 
 /// Stores in `into` the value that a read of the register at an offset would return now, and returns `true`. This isn't
 /// an access, and changes nothing in the adapter. If the handle holds no adapter, stores nothing and returns `false`.
 #[unsafe(no_mangle)]
-pub extern "C" fn nic82540em_peek(alloc: Global, nic: &mut Nic, offset: u32, into: &mut u32) -> bool
+pub extern "C" fn nic82540em_peek(nic: &mut Nic, offset: u32, into: &mut u32) -> bool
     requires sound { IsSound nic.old }
     ensures value { OnAdapter
         (OnlyLooks (λ a. (result ≡ true) × (into.new ≡ answer_at offset a.player.machine.world.adapter)))
         ((result ≡ false) × (into.new ≡ into.old)) nic.old nic.new }
 {
-    on_adapter!(alloc, nic, false, |adapter| {
+    on_adapter!(nic, false, |adapter| {
         *into = adapter.player.machine.value(offset);
         true
     })
@@ -40,22 +40,21 @@ pub extern "C" fn nic82540em_peek(alloc: Global, nic: &mut Nic, offset: u32, int
 /// Returns the kinds of steps that have something to do. Bit `n` is set if and only if a step of the kind with number
 /// `n` would have another outcome than `Nothing`. Returns 0 if the handle holds no adapter.
 #[unsafe(no_mangle)]
-pub extern "C" fn nic82540em_possible(alloc: Global, nic: &mut Nic) -> u32
+pub extern "C" fn nic82540em_possible(nic: &mut Nic) -> u32
     requires sound { IsSound nic.old }
     ensures mask { OnAdapter (OnlyLooks (λ a. TellsPossible result a)) (result ≡ 0) nic.old nic.new }
 {
-    on_adapter!(alloc, nic, 0, |adapter| possible::possible(&adapter))
+    on_adapter!(nic, 0, |adapter| possible::possible(adapter))
 }
 
 /// Returns the number of frames in the receive packet buffer, or 0 if the handle holds no adapter.
 #[unsafe(no_mangle)]
-pub extern "C" fn nic82540em_waiting_received(alloc: Global, nic: &mut Nic) -> u32
+pub extern "C" fn nic82540em_waiting_received(nic: &mut Nic) -> u32
     requires sound { IsSound nic.old }
     ensures count { OnAdapter (OnlyLooks (λ a. result ≡ length a.player.machine.world.adapter.receiver.buffer))
         (result ≡ 0) nic.old nic.new }
 {
     on_adapter!(
-        alloc,
         nic,
         0,
         |adapter| u32::from(adapter.player.machine.waiting().received)
@@ -65,13 +64,12 @@ pub extern "C" fn nic82540em_waiting_received(alloc: Global, nic: &mut Nic) -> u
 /// Returns the number of frames in the transmit packet buffer: frames that were fetched and aren't on the wire yet.
 /// Returns 0 if the handle holds no adapter.
 #[unsafe(no_mangle)]
-pub extern "C" fn nic82540em_waiting_transmit(alloc: Global, nic: &mut Nic) -> u32
+pub extern "C" fn nic82540em_waiting_transmit(nic: &mut Nic) -> u32
     requires sound { IsSound nic.old }
     ensures count { OnAdapter (OnlyLooks (λ a. result ≡ length a.player.machine.world.adapter.transmitter.buffer))
         (result ≡ 0) nic.old nic.new }
 {
     on_adapter!(
-        alloc,
         nic,
         0,
         |adapter| u32::from(adapter.player.machine.waiting().transmit)
@@ -82,22 +80,28 @@ pub extern "C" fn nic82540em_waiting_transmit(alloc: Global, nic: &mut Nic) -> u
 /// the EEPROM's words, the wire, offered frames, events, the schedule, or the number of accesses. Nor does it cover
 /// which steps are played before and after accesses.
 #[unsafe(no_mangle)]
-pub extern "C" fn nic82540em_digest(alloc: Global, nic: &mut Nic) -> u64
+pub extern "C" fn nic82540em_digest(nic: &mut Nic) -> u64
     requires sound { IsSound nic.old }
     ensures value { OnAdapter
         (OnlyLooks (λ a. result ≡ digest_of a.player.machine.world)) (result ≡ 0) nic.old nic.new }
 {
-    on_adapter!(alloc, nic, 0, |adapter| adapter.player.machine.digest())
+    on_adapter!(nic, 0, |adapter| adapter.player.machine.digest())
 }
 
 /// Returns a digest of the adapter's registers, of the frames in its packet buffers, and of its work in progress.
 /// Adapters with the same state have equal digests for each seed. The digest covers neither memory nor what
 /// [`nic82540em_digest`] omits. Returns 0 if the handle holds no adapter.
+#[tactic(auto, unfolding(crate::specs::Digests::state_digest_of))]
 #[unsafe(no_mangle)]
-pub extern "C" fn nic82540em_state_digest(alloc: Global, nic: &mut Nic, seed: u64) -> u64
+pub extern "C" fn nic82540em_state_digest(nic: &mut Nic, seed: u64) -> u64
     requires sound { IsSound nic.old }
     ensures value { OnAdapter (OnlyLooks (λ a. result ≡ state_digest_of seed a.player.machine.world.adapter))
         (result ≡ 0) nic.old nic.new }
 {
-    on_adapter!(alloc, nic, 0, |adapter| calls::state_digest(&adapter, seed))
+    on_adapter!(nic, 0, |adapter| {
+        let mut hasher = FoldHasher::default();
+        hasher.write_u64(seed);
+        adapter.player.machine.adapter().feed(&mut hasher);
+        hasher.finish()
+    })
 }

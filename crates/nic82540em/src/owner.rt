@@ -32,6 +32,21 @@ impl Model for Owner {
 }
 
 impl Owner {
+    ghost use Rattle.std.specs.Borrow.{sem};
+    ghost use Rattle.nic82540em.specs.Lending.{LendsAdapter};
+
+    /// Returns the adapter of a full owner. When the borrow ends, the owner is still full, and its box contains the last
+    /// value of the adapter.
+    pub(crate) fn adapter(&mut self) -> &mut WatchedAdapter
+        requires { self.old.full ≡ true }
+        ensures* writes_back { sem 𝓛 (LendsAdapter self.entry result) }
+        ensures value { result.now ≡ self.old.value }
+    {
+        let at = self.at as *mut WatchedAdapter;
+        // This is safe because a full owner owns the box at this address.
+        unsafe { &mut *at }
+    }
+
     /// Removes and returns the adapter of a full owner. Afterwards the owner is empty, with the allocator `alloc`.
     pub(crate) fn take(&mut self, alloc: Global) -> Box<WatchedAdapter>
         requires { self.old.full ≡ true }

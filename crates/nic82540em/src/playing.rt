@@ -8,52 +8,69 @@ ghost use Rattle.nic82540em.specs.Calls.{with_events, with_ticks, with_wire};
 ghost use Rattle.nic82540em.specs.Handles.{IsSound, OnAdapter};
 ghost use Rattle.nic82540em.specs.Schedules.{AnswersPlay, RoundAnswered};
 
+use crate::calls::follow;
 use crate::events::KeptEvent;
 use crate::handle::{Nic, on_adapter};
-use crate::numbers::REFUSED;
-use crate::{calls, schedules};
+use crate::numbers::{REFUSED, fate_number, kind_with, outcome_number};
+use crate::schedules::{begin_round, meet_choice, play};
 use std::alloc::Global;
+
+/// The greatest number that the maximum of random steps before an access, or of cycles after it, can be set to (our
+/// choice).
+const MOST_DRAWN: u32 = 65_535;
 
 /// Makes the adapter take a step of the kind with this number. Returns the number of the outcome, or `0xFFFFFFFF` if no
 /// kind has this number or the handle holds no adapter.
 #[unsafe(no_mangle)]
-pub extern "C" fn nic82540em_step(alloc: Global, nic: &mut Nic, number: u32) -> u32
+pub extern "C" fn nic82540em_step(nic: &mut Nic, number: u32) -> u32
     requires sound { IsSound nic.old }
     ensures done { OnAdapter (AnswersStep number result) (result ≡ REFUSED) nic.old nic.new }
 {
-    on_adapter!(alloc, nic, REFUSED, calls::step, number)
+    on_adapter!(nic, REFUSED, |adapter| match kind_with(number) {
+        Some(kind) => outcome_number(adapter.player.step(kind, &mut adapter.events)),
+        None => REFUSED,
+    })
 }
 
 /// Delivers all offered frames, and then plays cycles, each with one step of each kind, until a cycle does nothing. The
 /// maximum number of cycles is `played_adapter::MOST_CYCLES`. Returns the number of steps that did something, or 0 if
 /// the handle holds no adapter.
 #[unsafe(no_mangle)]
-pub extern "C" fn nic82540em_settle(alloc: Global, nic: &mut Nic) -> u64
+pub extern "C" fn nic82540em_settle(nic: &mut Nic) -> u64
     requires sound { IsSound nic.old }
     ensures done { OnAdapter (SettlesOffered result) (result ≡ 0) nic.old nic.new }
 {
-    on_adapter!(alloc, nic, 0, calls::settle)
+    on_adapter!(
+        nic,
+        0,
+        |adapter| adapter.player.serve_settle(&mut adapter.events)
+    )
 }
 
 /// Delivers a frame to the adapter, and then plays cycles until one does nothing, up to the maximum of
 /// [`nic82540em_pace`]. Returns the number of the frame's fate, or `0xFFFFFFFF` if the handle holds no adapter.
 #[unsafe(no_mangle)]
-pub extern "C" fn nic82540em_arrive(alloc: Global, nic: &mut Nic, frame: &[u8]) -> u32
+pub extern "C" fn nic82540em_arrive(nic: &mut Nic, frame: &[u8]) -> u32
     requires sound { IsSound nic.old }
     ensures done { OnAdapter (AnswersArrival frame.now result) (result ≡ REFUSED) nic.old nic.new }
 {
-    on_adapter!(alloc, nic, REFUSED, calls::arrive, frame)
+    on_adapter!(nic, REFUSED, |adapter| {
+        let most = adapter.player.pace;
+        let fate = adapter.player.arrive(frame, &mut adapter.events);
+        follow(adapter, true, most);
+        fate_number(fate)
+    })
 }
 
 /// Moves the oldest frame from the wire to the beginning of `into`, if the frame fits. Returns the frame's length in
 /// bytes, also if the frame doesn't fit. Returns 0 if no frame waits, or if the handle holds no adapter.
 #[unsafe(no_mangle)]
-pub extern "C" fn nic82540em_take_put(alloc: Global, nic: &mut Nic, into: &mut [u8]) -> usize
+pub extern "C" fn nic82540em_take_put(nic: &mut Nic, into: &mut [u8]) -> usize
     requires sound { IsSound nic.old }
     ensures done { OnAdapter (TakingAnswered into.old into.new result)
         ((result ≡ 0) × (into.new ≡ into.old)) nic.old nic.new }
 {
-    on_adapter!(alloc, nic, 0, |adapter| adapter.player.take_put(into))
+    on_adapter!(nic, 0, |adapter| adapter.player.take_put(into))
 }
 
 /// From now on, up to `count` steps and arrivals of offered frames are played before each access. A generator with this
@@ -62,11 +79,20 @@ pub extern "C" fn nic82540em_take_put(alloc: Global, nic: &mut Nic, into: &mut [
 ///
 /// Returns `false`, and changes nothing, if `count` is above 65,535, or if the handle holds no adapter.
 #[unsafe(no_mangle)]
-pub extern "C" fn nic82540em_interleave(alloc: Global, nic: &mut Nic, count: u32, seed: u64) -> bool
+pub extern "C" fn nic82540em_interleave(nic: &mut Nic, count: u32, seed: u64) -> bool
     requires sound { IsSound nic.old }
     ensures done { OnAdapter (AnswersInterleave count seed result) (result ≡ false) nic.old nic.new }
 {
-    on_adapter!(alloc, nic, false, calls::interleave, count, seed)
+    on_adapter!(nic, false, |adapter| {
+        let is_allowed = count <= MOST_DRAWN;
+        if is_allowed {
+            let plays = adapter.agenda.is_some();
+            adapter
+                .player
+                .interleave(if plays { 0 } else { count as u16 }, seed);
+        }
+        is_allowed
+    })
 }
 
 /// From now on, cycles are played after each access and each call of [`nic82540em_arrive`] until one does nothing, up
@@ -74,11 +100,17 @@ pub extern "C" fn nic82540em_interleave(alloc: Global, nic: &mut Nic, count: u32
 ///
 /// Returns `false`, and changes nothing, if `count` is above 65,535, or if the handle holds no adapter.
 #[unsafe(no_mangle)]
-pub extern "C" fn nic82540em_pace(alloc: Global, nic: &mut Nic, count: u32) -> bool
+pub extern "C" fn nic82540em_pace(nic: &mut Nic, count: u32) -> bool
     requires sound { IsSound nic.old }
     ensures done { OnAdapter (AnswersPace count result) (result ≡ false) nic.old nic.new }
 {
-    on_adapter!(alloc, nic, false, calls::pace, count)
+    on_adapter!(nic, false, |adapter| {
+        let is_allowed = count <= MOST_DRAWN;
+        if is_allowed {
+            adapter.player.pace = count as u16;
+        }
+        is_allowed
+    })
 }
 
 /// Returns a number below `limit`, or 0 if `limit` is 0 or the handle holds no adapter.
@@ -87,12 +119,17 @@ pub extern "C" fn nic82540em_pace(alloc: Global, nic: &mut Nic, count: u32) -> b
 /// action in the schedule of [`nic82540em_play`](crate::nic82540em_play) chooses. If this number isn't below `limit`,
 /// or no action is due, the number is 0. The schedule counts the call as a request `choose`.
 #[unsafe(no_mangle)]
-pub extern "C" fn nic82540em_choose(alloc: Global, nic: &mut Nic, limit: u32) -> u32
+pub extern "C" fn nic82540em_choose(nic: &mut Nic, limit: u32) -> u32
     requires sound { IsSound nic.old }
     ensures done { OnAdapter (Chooses limit result) (result ≡ 0) nic.old nic.new }
     ensures below { 0 < limit → result < limit }
 {
-    on_adapter!(alloc, nic, 0, calls::choose, limit)
+    on_adapter!(nic, 0, |adapter| {
+        let wanted = meet_choice(&mut adapter.agenda);
+        adapter
+            .player
+            .serve_choose(limit, wanted, &mut adapter.events)
+    })
 }
 
 /// Adds a step of the kind with this number to the end of the list of scheduled steps.
@@ -103,48 +140,52 @@ pub extern "C" fn nic82540em_choose(alloc: Global, nic: &mut Nic, limit: u32) ->
 /// Returns `false`, and changes nothing, if no kind has this number, if 4,096 steps wait, or if the handle holds no
 /// adapter.
 #[unsafe(no_mangle)]
-pub extern "C" fn nic82540em_schedule(
-    alloc: Global,
-    nic: &mut Nic,
-    access: u64,
-    number: u32,
-) -> bool
+pub extern "C" fn nic82540em_schedule(nic: &mut Nic, access: u64, number: u32) -> bool
     requires sound { IsSound nic.old }
     ensures done { OnAdapter (ScheduleAnswered access number result) (result ≡ false) nic.old nic.new }
 {
-    on_adapter!(alloc, nic, false, calls::schedule, access, number)
+    on_adapter!(nic, false, |adapter| match kind_with(number) {
+        Some(kind) => adapter.player.schedule(access, kind),
+        None => false,
+    })
 }
 
 /// Sets whether a step of the EEPROM and one of the PHY are played before each later access. Does nothing if the handle
 /// holds no adapter.
 #[unsafe(no_mangle)]
-pub extern "C" fn nic82540em_ticks(alloc: Global, nic: &mut Nic, on: bool)
+pub extern "C" fn nic82540em_ticks(nic: &mut Nic, on: bool)
     requires sound { IsSound nic.old }
     ensures done { OnAdapter (λ a b. b ≡ with_ticks on a) ⊤ nic.old nic.new }
 {
-    on_adapter!(alloc, nic, (), |adapter| adapter.player.ticks = on)
+    on_adapter!(nic, (), |adapter| adapter.player.ticks = on)
 }
 
 /// Sets whether later events are kept. The events that wait aren't removed. Does nothing if the handle holds no
 /// adapter.
 #[unsafe(no_mangle)]
-pub extern "C" fn nic82540em_events(alloc: Global, nic: &mut Nic, on: bool)
+pub extern "C" fn nic82540em_events(nic: &mut Nic, on: bool)
     requires sound { IsSound nic.old }
     ensures done { OnAdapter (λ a b. b ≡ with_events on a) ⊤ nic.old nic.new }
 {
-    on_adapter!(alloc, nic, (), |adapter| adapter.events.on = on)
+    on_adapter!(nic, (), |adapter| adapter.events.on = on)
 }
 
 /// Removes the oldest event, stores it in `into`, and returns `true`.
 ///
 /// Returns `false`, and changes nothing, if no event waits, or if the handle holds no adapter.
 #[unsafe(no_mangle)]
-pub extern "C" fn nic82540em_take_event(alloc: Global, nic: &mut Nic, into: &mut KeptEvent) -> bool
+pub extern "C" fn nic82540em_take_event(nic: &mut Nic, into: &mut KeptEvent) -> bool
     requires sound { IsSound nic.old }
     ensures done { OnAdapter (AnswersEvent into.old into.new result)
         ((result ≡ false) × (into.new ≡ into.old)) nic.old nic.new }
 {
-    on_adapter!(alloc, nic, false, calls::take_event, into)
+    on_adapter!(nic, false, |adapter| match adapter.events.take() {
+        Some(event) => {
+            *into = event;
+            true
+        }
+        None => false,
+    })
 }
 
 /// Adds a copy of a frame to the end of the list of offered frames, and returns `true`.
@@ -158,21 +199,20 @@ pub extern "C" fn nic82540em_offer(alloc: Global, nic: &mut Nic, frame: &[u8]) -
     ensures done { OnAdapter (AnswersOffer frame.now result) (result ≡ false) nic.old nic.new }
 {
     on_adapter!(
-        alloc,
         nic,
         false,
-        |adapter| calls::offer(alloc, &mut adapter, frame)
+        |adapter| adapter.player.offered.push(alloc, frame).is_ok()
     )
 }
 
 /// Sets whether the caller fills the wire. While `full` is set, no frame is put on the wire, even if fewer than 64
 /// frames wait there. Otherwise frames are put on the wire until 64 wait. Does nothing if the handle holds no adapter.
 #[unsafe(no_mangle)]
-pub extern "C" fn nic82540em_fill_wire(alloc: Global, nic: &mut Nic, full: bool)
+pub extern "C" fn nic82540em_fill_wire(nic: &mut Nic, full: bool)
     requires sound { IsSound nic.old }
     ensures done { OnAdapter (λ a b. b ≡ with_wire full a) ⊤ nic.old nic.new }
 {
-    on_adapter!(alloc, nic, (), |adapter| adapter.player.wire_free = !full)
+    on_adapter!(nic, (), |adapter| adapter.player.wire_free = !full)
 }
 
 /// From now on, plays the schedule in a text instead of an earlier schedule, and draws no steps before accesses.
@@ -185,12 +225,7 @@ pub extern "C" fn nic82540em_play(alloc: Global, nic: &mut Nic, text: &[u8]) -> 
     requires sound { IsSound nic.old }
     ensures done { OnAdapter (AnswersPlay text.now result) (result ≡ REFUSED) nic.old nic.new }
 {
-    on_adapter!(
-        alloc,
-        nic,
-        REFUSED,
-        |adapter| schedules::play(alloc, &mut adapter, text)
-    )
+    on_adapter!(nic, REFUSED, |adapter| play(alloc, adapter, text))
 }
 
 /// Begins the schedule's next round with the request that has this number: 0 `arrive`, 1 `offer`, 2 `step`,
@@ -199,9 +234,9 @@ pub extern "C" fn nic82540em_play(alloc: Global, nic: &mut Nic, text: &[u8]) -> 
 /// Plays the actions of the schedule, if there is one, that are due before the request, and returns `true`. If no
 /// request has this number, or the handle holds no adapter, returns `false` and changes nothing.
 #[unsafe(no_mangle)]
-pub extern "C" fn nic82540em_begin_round(alloc: Global, nic: &mut Nic, number: u32) -> bool
+pub extern "C" fn nic82540em_begin_round(nic: &mut Nic, number: u32) -> bool
     requires sound { IsSound nic.old }
     ensures done { OnAdapter (RoundAnswered number result) (result ≡ false) nic.old nic.new }
 {
-    on_adapter!(alloc, nic, false, schedules::begin_round, number)
+    on_adapter!(nic, false, begin_round, number)
 }

@@ -1,20 +1,10 @@
 // The steps that have something to do.
 
 ghost use Rattle.std.specs.Prelude.{◌≡◌, ◌≤◌};
-ghost use Rattle.nic82540em.specs.Calls.{TellsPossible, AnswersWork, bit_if};
+ghost use Rattle.nic82540em.specs.Calls.{TellsPossible, AnswersWork};
 
 use crate::watched::WatchedAdapter;
 use adapter::StepKind;
-
-/// Returns `value`, the value of one bit of a mask, if `is_set` is true, else 0.
-fn bit_if(is_set: bool, value: u32) -> u32
-    ensures bit { result ≡ bit_if is_set value }
-
-    // By this bound, the sum in `possible` doesn't overflow.
-    ensures fits { result ≤ value }
-{
-    if is_set { value } else { 0 }
-}
 
 /// Returns `value` if a step of this kind has something to do, else 0.
 fn bit_of(watched: &WatchedAdapter, kind: StepKind, value: u32) -> u32
@@ -23,7 +13,11 @@ fn bit_of(watched: &WatchedAdapter, kind: StepKind, value: u32) -> u32
     // By this bound, the sum in `possible` doesn't overflow.
     ensures fits { result ≤ value }
 {
-    bit_if(watched.player.machine.has_work(kind), value)
+    if watched.player.machine.has_work(kind) {
+        value
+    } else {
+        0
+    }
 }
 
 /// Returns the kinds of steps that have something to do. Bit `n` is set if and only if a step of the kind with number

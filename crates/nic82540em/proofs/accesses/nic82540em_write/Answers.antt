@@ -1,0 +1,18 @@
+use Rattle.std.proofs.Common.{refl, true}
+use Rattle.bus.specs.declared.event.Access.TheVariants.{Writes}
+use Rattle.nic82540em.specs.Calls.{AccessAnswered}
+use Rattle.nic82540em.specs.declared.watched.WatchedAdapter.{WatchedAdapter}
+use Rattle.played_adapter.specs.Playing.{Accessed}
+use Rattle.nic82540em.proofs.Pacing.{on_held, plain}
+use Rattle.nic82540em.proofs.accesses.nic82540em_write.Goals as goal
+
+pub returns-then-is_plain : goal.returns-then-is_plain
+returns-then-is_plain c =
+    let a = c.adapter-adapter.result.now in
+    let b : WatchedAdapter = record a { player = c.write.new.self } in
+    record {
+      done = on_held (AccessAnswered (Writes c.args.offset c.args.value)) _
+          c.args.nic.now a b c.adapter-adapter.ensures.value c.requires.sound c.if-nic.true
+          (plain _ _ _ _ true _ _ (Accessed (Writes c.args.offset c.args.value))
+          a b (c.is_plain.ensures c.if-is_plain.true) c.write.ensures refl refl);
+    }
