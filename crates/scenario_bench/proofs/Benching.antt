@@ -27,7 +27,7 @@ use Rattle.run_record.specs.EventLogView.{plan_name}
 use Rattle.scenario_bench.specs.Given.{given_from, sockets_from}
 use Rattle.run_record.specs.Numbers.{next_number}
 use Rattle.run_record.specs.Kept.{numbered_frame}
-use Rattle.scenario_bench.specs.PlayedEvents.{AreRecorded, HasBegunPlay, HasPlayed, HasPlayedFront, HasPlayedScenario}
+use Rattle.scenario_bench.specs.PlayedEvents.{AreRecorded, HasBegunPlay, HasPlayed, HasPlayedFront}
 use Rattle.run_record.specs.Recording.{IsNewRecord}
 use Rattle.scenario_bench.specs.PlayedEvents.{StopsAtPlan, StopsWithin, TellTallies, TellsTally, socket_texts_in, wire_texts_in}
 use Rattle.run_record.specs.Kept.{KeptFrame, frames_where, is_of_socket, put_from, returned_from, returned_in}
@@ -217,9 +217,24 @@ pub stops_as : (all said : List Said) (a b : Play) (error : BenchError) → all 
     → StopsWithin said a b error
 stops_as all said a b error is stops = subst (λ (events : List Said). StopsWithin events a b error) is stops
 
-pub tells_as : (hosts plans : List HostPlan) (b : Play) (told : List HostSummary) → hosts ≡ plans → TellTallies (length hosts) hosts b told
+tells_as : (hosts plans : List HostPlan) (b : Play) (told : List HostSummary) → hosts ≡ plans → TellTallies (length hosts) hosts b told
     → TellTallies (length plans) plans b told
 tells_as hosts plans b told is tells = subst (λ (hs : List HostPlan). TellTallies (length hs) hs b told) is tells
+
+-- The commands of the scenario were played, and `hosts` are the summaries of its hosts.
+pub record HasPlayedScenario (scenario : Scenario) (traces : List (List (List ℕ))) (old new : Play) (hosts : List HostSummary)
+    : Type 0 where
+  pub played : HasPlayed (scenario_events scenario traces) old new
+  pub tells : TellTallies (length scenario.plan.hosts.items) scenario.plan.hosts.items new hosts
+
+pub played_scenario : (plans : List HostPlan) (commands : List Command) (scenario : Scenario) (traces : List (List (List ℕ))) (a b : Play)
+    (told : List HostSummary) → plans ≡ scenario.plan.hosts.items → commands ≡ scenario.commands.items
+    → HasPlayed (all_events (hosts_of plans) traces (map said_of commands)) a b → TellTallies (length plans) plans b told
+    → HasPlayedScenario scenario traces a b told
+played_scenario plans commands scenario traces a b told plans_are commands_are has tells = record {
+  played = subst (λ (said : List Said). HasPlayed said a b) (same_events plans commands scenario traces plans_are commands_are) has;
+  tells = tells_as plans scenario.plan.hosts.items b told plans_are tells;
+}
 
 -- the summary contains these summaries of hosts, and the refused calls and the lines of the record
 pub record IsOfPlay (play : Play) (told : List HostSummary) (summary : Summary) : Type 0 where

@@ -7,4 +7,5 @@ pub mod FileNames
 pub mod WireLists
 pub mod PlayedEvents
 pub mod ToldAnswers
+pub mod Written
 pub mod Benching

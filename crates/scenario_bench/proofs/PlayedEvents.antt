@@ -5,7 +5,7 @@ use Rattle.std.proofs.lemmas.Grind.{flat_map-append}
 use Rattle.std.specs.List.{flat_map}
 use Rattle.rand_pcg.specs.Lcg.{Lcg}
 use Rattle.rand_pcg.specs.Pcg.{pcg32}
-use Rattle.std.proofs.Common.{Option, None, option_map, slice_get}
+use Rattle.std.proofs.Common.{Option, None, Some, option_map, slice_get}
 use Rattle.std.proofs.lemmas.List.{length-map, map-append, take-append-drop}
 use Rattle.std.proofs.lemmas.Option.{slice_get-map, slice_get_past}
 use Rattle.std.specs.Prelude.{unwrap_or}
@@ -296,6 +296,13 @@ of_no_feed hosts traces one host place a is past =
     subst (λ (s : List Said). HasPlayed s a a)
     (sym (ap (λ (c : Command). events_of hosts (map trace_frames traces) (said_of c)) is
     ∙ ap (flat_map (fed hosts host)) (fed-frames hosts host traces place None (slice_get_past traces place past)))) (played_none a)
+
+pub of_feed : (Holds : List Said → Type 0) (hosts : List Host) (traces : List Trace) (one : Command) (host place : ℕ) (trace : Trace)
+    → one ≡ command.Feed host place → slice_get traces place ≡ Some trace → Holds (flat_map (fed hosts host) trace.frames)
+    → Holds (events_of hosts (map trace_frames traces) (said_of one))
+of_feed Holds hosts traces one host place trace is found holds =
+    subst Holds (sym (ap (λ (c : Command). events_of hosts (map trace_frames traces) (said_of c)) is
+    ∙ ap (flat_map (fed hosts host)) (fed-frames hosts host traces place (Some trace) found))) holds
 
 -- Several commands
 

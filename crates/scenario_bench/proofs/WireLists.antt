@@ -1,11 +1,11 @@
 -- The loop that collects the names of wires.
-use Rattle.std.proofs.Common.{◌≡◌, ◌<◌, ◌+◌, ◌++◌, ◌∷◌, [], ℕ, Bool, true, false, List, length, take}
+use Rattle.std.proofs.Common.{◌≡◌, ◌<◌, ◌≤◌, ◌+◌, ◌++◌, ◌∷◌, [], ℕ, Bool, true, false, List, length, take}
 use Rattle.std.proofs.Common.{◌||◌, if◌then◌else◌, slice_index_or}
 use Rattle.std.proofs.Common.{refl, sym, ap, ◌∙◌, arith, bytes_eq, string_bytes}
 use Rattle.std.specs.Borrow.{Bor}
 use Rattle.std.specs.List.{list_any}
 use Rattle.std.proofs.lemmas.Grind.{common_steps}
-use Rattle.std.proofs.lemmas.List.{map-append}
+use Rattle.std.proofs.lemmas.List.{map-append, take_all}
 use Rattle.std.proofs.lemmas.List.Sums.{fold-append}
 use Rattle.network_plan.specs.declared.plan.HostPlan.{HostPlan}
 use Rattle.scenario.specs.SoFar.{host_of_plan, hosts_of}
@@ -52,3 +52,7 @@ wire_more plans number plan d wires more wire below is so_far tested named grown
     ap names_in grown ∙ map-append (λ (name : Bor (List ℕ)). name.now) wires (wire ∷ [])
     ∙ ap (λ (name : List ℕ). names_in wires ++ name ∷ []) named
     ∙ sym (one-more plans number plan d wires false below is so_far tested)
+
+pub wires_all : (plans : List HostPlan) (number : ℕ) (wires : List (Bor (List ℕ))) → length plans ≤ number
+    → names_in wires ≡ wire_names (hosts_of (take number plans)) → names_in wires ≡ wire_names (hosts_of plans)
+wires_all plans number wires past is = is ∙ ap (λ (hosts : List HostPlan). wire_names (hosts_of hosts)) (take_all number plans past)

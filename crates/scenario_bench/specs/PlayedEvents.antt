@@ -13,10 +13,8 @@ use Rattle.pcap_trace.specs.Format.{Timed}
 use Rattle.pcap_trace.specs.declared.trace.Trace.{Trace}
 use Rattle.wire.specs.NewNetworks.{IsLanAnswer}
 use Rattle.scenario.specs.SoFar.{Host, Said, command_of_event, hosts_of}
-use Rattle.scenario.specs.declared.command.Scenario.{Scenario}
 use Rattle.run_record.specs.Acts.{Act}
 use Rattle.scenario_bench.specs.PlayedActs.{ActsLead, act_of}
-use Rattle.scenario_bench.specs.Benches.{scenario_events}
 use Rattle.scenario_bench.specs.EventLists.{events_after_send}
 use Rattle.scenario_bench.specs.Given.{sockets_from}
 use Rattle.run_record.specs.Kept.{KeptFrame, socket_texts}
@@ -94,14 +92,6 @@ pub record TellTallies (first : ℕ) (plans : List HostPlan) (play : Play) (told
   pub each : (k : ℕ) (plan : HostPlan) (tally : Tally) (host : HostState) (one : HostSummary) → slice_get plans k ≡ Some plan
       → slice_get play.record.hosts.items k ≡ Some tally → IsHost play.lan k host → slice_get told k ≡ Some one
       → TellsTally plan tally host (world_at play.lan.stations k) one
-
--- A scenario.
-
--- The commands of the scenario were played, and `hosts` are the summaries of its hosts.
-pub record HasPlayedScenario (scenario : Scenario) (traces : List (List (List ℕ))) (old new : Play) (hosts : List HostSummary)
-    : Type 0 where
-  pub played : HasPlayed (scenario_events scenario traces) old new
-  pub tells : TellTallies (length scenario.plan.hosts.items) scenario.plan.hosts.items new hosts
 
 -- If `wires`, the number of traces of wires to write, isn't 0, the frames that adapters put are recorded.
 abbrev pub AreRecorded : (wires : ℕ) → Option (List KeptFrame) → Type 0

@@ -1,7 +1,6 @@
 //! The events of a scenario's commands.
 ghost use Rattle.std.specs.Prelude.{◌≡◌, ◌<◌, ◌++◌, ◌∷◌, [], None, OnOk, length, map};
 ghost use Rattle.registers.specs.Image.{address_bytes};
-ghost use Rattle.run_record.specs.Puts.{wire_name_of};
 ghost use Rattle.scenario.specs.SoFar.{Receives, Ticks, command_of_event, hosts_of};
 ghost use Rattle.scenario_bench.specs.EventLists as lists;
 ghost use Rattle.scenario_bench.specs.PlayedEvents.{AreOfSender};
@@ -49,13 +48,12 @@ pub(crate) fn pieces_of(size: usize) -> usize
         .div_ceil(RECEIVE_BUFFER_BYTES as usize)
 }
 
-/// Appends an event.
-fn push_event<'a>(events: &mut Vec<Event<'a>>, event: Event<'a>) -> Result<(), AllocError>
+/// Appends these events, in order.
+fn push_events<'a>(events: &mut Vec<Event<'a>>, more: &[Event<'a>]) -> Result<(), AllocError>
     ensures { OnOk result (map command_of_event events.new.items
-        ≡ map command_of_event events.old.items ++ command_of_event event.entry ∷ []) }
+        ≡ map command_of_event events.old.items ++ map command_of_event more.now) }
 {
-    events.push(event)?;
-    Ok(())
+    events.extend_from_slice(more)
 }
 
 /// Appends the steps that move this number of pieces of a frame to a host's memory: RxData and RxDone for each piece.
@@ -65,8 +63,9 @@ fn push_moves(host: usize, pieces: usize, events: &mut Vec<Event<'_>>) -> Result
         map command_of_event events.old.items ++ lists.moves_of_pieces host pieces) }
 {
     for _piece in 0..pieces {
-        push_event(events, step_event(host, StepKind::RxData))?;
-        push_event(events, step_event(host, StepKind::RxDone))?;
+        let data = step_event(host, StepKind::RxData);
+        let done = step_event(host, StepKind::RxDone);
+        push_events(events, &[data, done])?;
     }
     Ok(())
 }
@@ -83,31 +82,11 @@ fn push_arrival(
         (map command_of_event events.new.items ≡
         map command_of_event events.old.items ++ lists.arrival_at pieces host sockets) }
 {
-    push_event(events, Event::Tick(Tick::Deliver(host)))?;
+    push_events(events, &[Event::Tick(Tick::Deliver(host))])?;
     push_moves(host, pieces, events)?;
-    push_event(events, Event::Interrupt { host, ticks: &[] })?;
+    push_events(events, &[Event::Interrupt { host, ticks: &[] }])?;
     for socket in 0..sockets {
-        push_event(events, recv_event(host, socket))?;
-    }
-    Ok(())
-}
-
-/// Appends the events by which a sender's frame arrives, in this number of pieces, at each other host on the sender's
-/// wire, in order. If memory is refused, some of the events may have been appended.
-fn push_arrivals(
-    plans: &[HostPlan],
-    pieces: usize,
-    sender: usize,
-    events: &mut Vec<Event<'_>>,
-) -> Result<(), AllocError>
-    ensures { OnOk result (map command_of_event events.new.items ≡ map command_of_event events.old.items
-        ++ lists.arrivals_from pieces 0 sender (wire_name_of (hosts_of plans.now) sender) (hosts_of plans.now)) }
-{
-    let wire = wire_of(plans, sender);
-    for (number, plan) in plans.iter().enumerate() {
-        if number != sender && plan.wire.as_str() == wire {
-            push_arrival(pieces, number, plan.sockets.len(), events)?;
-        }
+        push_events(events, &[recv_event(host, socket)])?;
     }
     Ok(())
 }
@@ -125,9 +104,16 @@ fn set_events_after_send(
         (map command_of_event events.new.items ≡ lists.events_after_send (hosts_of plans.now) sender pieces) }
 {
     events.clear();
-    push_event(events, step_event(sender, StepKind::TxTake))?;
-    push_event(events, step_event(sender, StepKind::TxPut))?;
-    push_arrivals(plans, pieces, sender, events)
+    let take = step_event(sender, StepKind::TxTake);
+    let put = step_event(sender, StepKind::TxPut);
+    push_events(events, &[take, put])?;
+    let wire = wire_of(plans, sender);
+    for (number, plan) in plans.iter().enumerate() {
+        if number != sender && plan.wire.as_str() == wire {
+            push_arrival(pieces, number, plan.sockets.len(), events)?;
+        }
+    }
+    Ok(())
 }
 
 /// The events after the send of a fed frame from one host. The list is made again only if the next frame arrives in a

@@ -6,20 +6,7 @@ use crate::wire_list::wires;
 use network_plan::HostPlan;
 use std::alloc::{AllocError, Global};
 
-/// Appends the name of the file of a host's socket, `HOST.SOCKET.pcap`.
-fn push_socket_file(
-    alloc: Global,
-    host: &str,
-    socket: usize,
-    names: &mut Vec<String>,
-) -> Result<(), AllocError>
-    ensures { OnOk result (length names.new.items ≡ length names.old.items + 1) }
-{
-    names.push(format!(in alloc; "{host}.{socket}.pcap")?)?;
-    Ok(())
-}
-
-/// Appends the names of the files of a host's sockets.
+/// Appends the name of the file of each socket of a host, `HOST.SOCKET.pcap`.
 fn push_socket_files(
     alloc: Global,
     plan: &HostPlan,
@@ -29,7 +16,7 @@ fn push_socket_files(
 {
     let host = plan.name.as_str();
     for socket in 0..plan.sockets.len() {
-        push_socket_file(alloc, host, socket, names)?;
+        names.push(format!(in alloc; "{host}.{socket}.pcap")?)?;
     }
     Ok(())
 }
@@ -50,21 +37,13 @@ pub fn socket_files(alloc: Global, plans: &[HostPlan]) -> Result<Vec<String>, Al
     Ok(names)
 }
 
-/// Appends the name of the file of a wire, `WIRE.pcap`.
-fn push_wire_file(alloc: Global, wire: &str, names: &mut Vec<String>) -> Result<(), AllocError>
-    ensures { OnOk result (length names.new.items ≡ length names.old.items + 1) }
-{
-    names.push(format!(in alloc; "{wire}.pcap")?)?;
-    Ok(())
-}
-
-/// Returns the name of the file of each of these wires, in order.
+/// Returns the name of the file of each of these wires, `WIRE.pcap`, in order.
 fn files_of_wires(alloc: Global, wires: &[&str]) -> Result<Vec<String>, AllocError>
     ensures { IfOk result (λ names. length names.items ≡ length wires.now) }
 {
     let mut names = Vec::new(alloc);
     for wire in wires {
-        push_wire_file(alloc, wire, &mut names)?;
+        names.push(format!(in alloc; "{wire}.pcap")?)?;
     }
     Ok(names)
 }

@@ -1,27 +1,23 @@
 //! Plays a scenario.
-ghost use Rattle.std.specs.Prelude.{◌≡◌, ◌<◌, ◌≤◌, ◌-◌, ◌∷◌, [], All, Bool, Some, length, map, slice_get, unwrap_or};
+ghost use Rattle.std.specs.Prelude.{◌≡◌, ◌<◌, ◌≤◌, ◌-◌, ◌∷◌, [], All, Bool, length, map, unwrap_or};
 ghost use Rattle.std.specs.Prelude.{IfErr, IfOk, OnErr, OnOk};
 ghost use Rattle.std.specs.List.{flat_map};
-ghost use Rattle.packet_socket.specs.HostState.{HostState};
 ghost use Rattle.scenario.specs.SoFar.{Drains, command_of_event, hosts_of, said_of};
 ghost use Rattle.scenario_bench.specs.Benches.{AreAllWritten, Benches, IsFailedSink, Stops, StopsWriting};
-ghost use Rattle.scenario_bench.specs.Benches.{scenario_events, sinks_of};
+ghost use Rattle.scenario_bench.specs.Benches.{sinks_of};
 ghost use Rattle.scenario_bench.specs.EventLists as lists;
 ghost use Rattle.run_record.specs.EventLogView.{plan_name};
 ghost use Rattle.scenario_bench.specs.Given.{sockets_from};
 ghost use Rattle.scenario_bench.specs.PlayedEvents.{AreOfSender, AreRecorded, HasBegunPlay};
-ghost use Rattle.scenario_bench.specs.PlayedEvents.{HasPlayed, HasPlayedScenario};
+ghost use Rattle.scenario_bench.specs.PlayedEvents.{HasPlayed};
 ghost use Rattle.run_record.specs.Recording.{IsNewRecord};
-ghost use Rattle.scenario_bench.specs.PlayedEvents.{StopsAtPlan, StopsWithin, TellTallies, TellsTally, trace_frames};
+ghost use Rattle.scenario_bench.specs.PlayedEvents.{StopsAtPlan, StopsWithin, TellTallies, trace_frames};
 ghost use Rattle.scenario_bench.specs.PlayedEvents.{socket_texts_in, wire_texts_in};
 ghost use Rattle.scenario_bench.specs.WireLists.{wire_names};
 ghost use Rattle.scenario_bench.specs.Summaries.{asked_after};
 ghost use Rattle.run_record.specs.RunLogs.{new_log};
 ghost use Rattle.run_record.specs.Tallies.{grown_by};
 ghost use Rattle.run_record.specs.Traces.{texts_in};
-ghost use Rattle.run_record.specs.declared.tally.Tally.{Tally};
-ghost use Rattle.stations.specs.Stations.{world_at};
-ghost use Rattle.host_calls.specs.Networks.{IsHost};
 
 use crate::bench_error::BenchError;
 use crate::events::{Drawn, EventsAfterSend, pieces_of};
@@ -238,7 +234,6 @@ impl Play {
     /// Runs the events and drains of these commands, in order. Updates `asked` after each command. `lines` contains,
     /// for each command, the number of its line in the scenario. The record stores this number with the events and
     /// drains of the command. For a command after the end of `lines`, the number is 0. There must be at least one host.
-    #[tactic(auto, using(crate::proofs::PlayedEvents::none_fed, crate::proofs::PlayedEvents::all_ran))]
     fn commands(
         &mut self,
         alloc: Global,
@@ -253,47 +248,13 @@ impl Play {
         ensures err { IfErr result (StopsWithin (lists.all_events (hosts_of plans.now) (map trace_frames traces.now)
             (map said_of commands.now)) self.old self.new) }
     {
-        let mut left = commands;
-        while let Some((command, later)) = left.split_first() {
-            let place = commands.len().saturating_sub(left.len());
+        for (place, command) in commands.iter().enumerate() {
             self.record.line = lines.get(place).copied().unwrap_or(0);
             let before = self.record.log.refusals;
             self.command(alloc, plans, traces, command)?;
             self.asked = asked_after(self.asked, command, before, self.record.log.refusals);
-            left = later;
         }
         Ok(())
-    }
-
-    /// Returns the summary of host `number`, whose plan is `plan`. The record must contain its counts, and the network
-    /// must contain the host. Fails only if memory is refused.
-    fn host_summary(
-        &self,
-        alloc: Global,
-        number: usize,
-        plan: &HostPlan,
-    ) -> Result<HostSummary, AllocError>
-        requires tally { number < length self.now.record.hosts.items }
-        requires there { number < length self.now.lan.hosts }
-        // `tally` are the host's counts in the record, and `host` is its state in the network.
-        ensures { IfOk result (λ told. (tally : Tally) (host : HostState)
-            → slice_get self.now.record.hosts.items number ≡ Some tally → IsHost self.now.lan number host
-            → TellsTally plan.now tally host (world_at self.now.lan.stations number) told) }
-    {
-        let tally = self.record.hosts[number];
-        let counts = self.lan.counts(number).unwrap();
-        Ok(HostSummary {
-            name: String::from_str(alloc, plan.name.as_str())?,
-            accepted: tally.accepted,
-            put: tally.put,
-            reached: tally.reached,
-            stored: tally.stored,
-            missed: counts.missed,
-            exact: counts.exact,
-            given: tally.given,
-            unclaimed: counts.unclaimed,
-            given_up: tally.resets(),
-        })
     }
 
     /// Returns the summaries of all hosts of a plan, in order. The record must contain their counts, and the network
@@ -310,45 +271,21 @@ impl Play {
     {
         let mut hosts = Vec::new(alloc);
         for (number, plan) in plans.iter().enumerate() {
-            hosts.push(self.host_summary(alloc, number, plan)?)?;
+            let tally = self.record.hosts[number];
+            let counts = self.lan.counts(number).unwrap();
+            hosts.push(HostSummary {
+                name: String::from_str(alloc, plan.name.as_str())?,
+                accepted: tally.accepted,
+                put: tally.put,
+                reached: tally.reached,
+                stored: tally.stored,
+                missed: counts.missed,
+                exact: counts.exact,
+                given: tally.given,
+                unclaimed: counts.unclaimed,
+                given_up: tally.resets(),
+            })?;
         }
-        Ok(hosts)
-    }
-
-    /// Returns the summary of the run, with these summaries of its hosts. The lines of events are moved out of the
-    /// record, which then contains no lines.
-    fn summary(&mut self, hosts: Vec<HostSummary>) -> Summary
-        ensures hosts { result.hosts ≡ hosts }
-        ensures refusals { result.refusals ≡ self.old.record.log.refusals }
-        ensures asked { result.asked ≡ self.old.asked }
-        ensures events { result.events ≡ self.old.record.log.lines }
-    {
-        Summary {
-            hosts,
-            refusals: self.record.log.refusals,
-            asked: self.asked,
-            events: self.record.log.lines.take(),
-        }
-    }
-
-    /// Plays the commands of a scenario in order, and returns the summaries of the hosts. The network must be that of
-    /// the plan, and nothing must be recorded yet. If memory is refused, the error is `Run` or `Memory`.
-    fn scenario(
-        &mut self,
-        alloc: Global,
-        scenario: &Scenario,
-        traces: &[Trace],
-    ) -> Result<Vec<HostSummary>, BenchError>
-        requires { HasBegunPlay scenario.now.plan.hosts.items self.old }
-        ensures ok { IfOk result (λ hosts. HasPlayedScenario scenario.now (map trace_frames traces.now)
-            self.old self.new hosts.items) }
-        ensures err { IfErr result
-            (StopsWithin (scenario_events scenario.now (map trace_frames traces.now)) self.old self.new) }
-    {
-        let plans = scenario.plan.hosts.as_slice();
-        let commands = scenario.commands.as_slice();
-        self.commands(alloc, plans, traces, commands, scenario.command_lines())?;
-        let hosts = self.host_summaries(alloc, plans)?;
         Ok(hosts)
     }
 
@@ -421,9 +358,10 @@ impl Play {
         Ok(())
     }
 
-    /// Plays the commands of a scenario on the network of its plan, and then writes the traces. Returns the summary.
-    /// `new` must have made `self` for this plan and this number of `wire_sinks`, and nothing must be recorded yet. The
-    /// sinks must be as for `write`. In clause `ok`, `events` is the argument with which `new` was called.
+    /// Plays the commands of a scenario on the network of its plan, and then writes the traces. Returns the summary. It
+    /// has the lines of events, and the record then contains no lines. `new` must have made `self` for this plan and
+    /// this number of `wire_sinks`, and nothing must be recorded yet. The sinks must be as for `write`. In clause `ok`,
+    /// `events` is the argument with which `new` was called.
     fn bench<W: Sink>(
         &mut self,
         alloc: Global,
@@ -446,9 +384,17 @@ impl Play {
         ensures err { IfErr result (λ error. Stops unit scenario.now (map trace_frames traces.now) error
             (sinks_of W.taken W.failures sinks.old sinks.new wire_sinks.old wire_sinks.new)) }
     {
-        let hosts = self.scenario(alloc, scenario, traces)?;
+        let plans = scenario.plan.hosts.as_slice();
+        let commands = scenario.commands.as_slice();
+        self.commands(alloc, plans, traces, commands, scenario.command_lines())?;
+        let hosts = self.host_summaries(alloc, plans)?;
         self.write(alloc, &scenario.plan, unit, sinks, wire_sinks)?;
-        Ok(self.summary(hosts))
+        Ok(Summary {
+            hosts,
+            refusals: self.record.log.refusals,
+            asked: self.asked,
+            events: self.record.log.lines.take(),
+        })
     }
 }
 

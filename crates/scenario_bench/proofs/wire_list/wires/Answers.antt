@@ -1,7 +1,9 @@
-use Rattle.std.proofs.Common.{◌≡◌, ◌∙◌, Bool, List, ℕ, ap, arith, bytes_eq, string_bytes, sym}
+use Rattle.std.proofs.Common.{◌≡◌, ◌∙◌, Bool, List, ℕ, ap, arith, bytes_eq, length, string_bytes, sym}
 use Rattle.std.specs.Borrow.{Bor}
 use Rattle.std.specs.List.{list_any}
-use Rattle.scenario_bench.proofs.WireLists.{wire_more, wire_there}
+use Rattle.std.proofs.lemmas.List.{length-map}
+use Rattle.run_record.specs.Puts.{names_in}
+use Rattle.scenario_bench.proofs.WireLists.{wire_more, wire_there, wires_all}
 use Rattle.scenario_bench.proofs.wire_list.wires.Goals as goal
 
 tested : (wires slice : List (Bor (List ℕ))) (wire name : List ℕ) (result answer : Bool) → wire ≡ name → slice ≡ wires
@@ -25,3 +27,15 @@ loop-plan-preserved c =
     (tested c.loop-plan.wires.items c.as_slice.result.now c.as_str-wire.result.now (string_bytes c.plan-item.result.wire)
     c.contains.result _ c.as_str-wire.ensures.value c.as_slice.ensures.value c.contains.ensures.value c.if-contains.false)
     c.as_str-wire.ensures.value c.in_ok-push.ensures.items
+
+pub loop-plan-init : goal.loop-plan-init
+loop-plan-init c = ap names_in c.new-wires.ensures.items
+
+pub returns-clause-names : goal.returns-clause-names
+returns-clause-names c =
+    wires_all c.args.plans.now c.loop-plan.plan-index c.loop-plan.wires.items c.loop-plan-test.false c.loop-plan.invariant
+
+pub returns-clause-count : goal.returns-clause-count
+returns-clause-count c = sym (length-map c.loop-plan.wires.items (λ (name : Bor (List ℕ)). name.now))
+    ∙ ap length
+    (wires_all c.args.plans.now c.loop-plan.plan-index c.loop-plan.wires.items c.loop-plan-test.false c.loop-plan.invariant)

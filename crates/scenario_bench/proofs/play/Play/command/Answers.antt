@@ -1,14 +1,18 @@
-use Rattle.std.proofs.Common.{◌≡◌, ◌∷◌, [], ◌∙◌, ℕ, Global, List, Vec, ap, arith, map, rules, sym}
+use Rattle.std.proofs.Common.{◌≡◌, ◌∷◌, [], ◌∙◌, ℕ, Global, List, Some, Vec, ap, arith, length, map, rules, sym}
+use Rattle.std.specs.List.{flat_map}
 use Rattle.std.proofs.lemmas.Result.{IfErr-weaker, on_ok_weaker}
+use Rattle.std.proofs.lemmas.Bool.{ltb-true}
+use Rattle.std.proofs.lemmas.Option.{slice_get-get_or}
+use Rattle.pcap_trace.specs.declared.trace.Trace.{Trace}
 use Rattle.scenario.specs.SoFar.{Drains, Said, Ticks, command_of_event, hosts_of, said_of, said_of_call}
-use Rattle.scenario_bench.specs.EventLists.{event_drawn, events_of, words_drawn}
+use Rattle.scenario_bench.specs.EventLists.{event_drawn, events_of, fed, words_drawn}
 use Rattle.scenario_bench.specs.PlayedEvents.{HasPlayed, StopsWithin, trace_frames}
 use Rattle.network_plan.specs.declared.event.Event.{Event}
 use Rattle.scenario.specs.declared.call.Call.{Call}
 use Rattle.scenario.specs.declared.command.Command.{Command}
 use Rattle.scenario.specs.declared.command.Command.TheVariants as commands
 use Rattle.stations.specs.declared.tick.Tick.{Tick}
-use Rattle.scenario_bench.proofs.PlayedEvents.{of_event, of_no_feed, of_same}
+use Rattle.scenario_bench.proofs.PlayedEvents.{of_event, of_feed, of_no_feed, of_same}
 use Rattle.scenario_bench.proofs.play.Play.command.Goals as goal
 
 call-said : (one : Command) (event : Event) (call : Call) (host : ℕ) (list : List Tick) (ticks : Vec Tick Global)
@@ -83,3 +87,25 @@ returns-in-Drain-clause-err c =
     (λ error. of_same (λ (said : List Said). StopsWithin said c.args.self.now c.drain.new.self error) (hosts_of c.args.plans.now)
     (map trace_frames c.args.traces.now) c.args.command.now (commands.Drain c.in-Drain.host) c.in-Drain.is)
     c.drain.ensures.err
+
+pub returns-in-Some-clause-ok : goal.returns-in-Some-clause-ok
+returns-in-Some-clause-ok c =
+    let found = slice_get-get_or c.args.traces.now c.in-Feed.trace c.in-Some.trace.now
+    (ltb-true c.in-Feed.trace (length c.args.traces.now) (sym c.in-Some.ensures.lookup.0))
+    ∙ ap (λ (trace : Trace). Some trace) (sym c.in-Some.ensures.lookup.1) in
+    on_ok_weaker c.feed.result (of_feed (λ (said : List Said). HasPlayed said c.args.self.now c.feed.new.self)
+    (hosts_of c.args.plans.now) c.args.traces.now c.args.command.now c.in-Feed.host c.in-Feed.trace c.in-Some.trace.now c.in-Feed.is
+    found) c.feed.ensures.ok
+
+pub returns-in-Some-clause-err : goal.returns-in-Some-clause-err
+returns-in-Some-clause-err c =
+    let found = slice_get-get_or c.args.traces.now c.in-Feed.trace c.in-Some.trace.now
+    (ltb-true c.in-Feed.trace (length c.args.traces.now) (sym c.in-Some.ensures.lookup.0))
+    ∙ ap (λ (trace : Trace). Some trace) (sym c.in-Some.ensures.lookup.1) in
+    IfErr-weaker c.feed.result
+    (StopsWithin (flat_map (fed (hosts_of c.args.plans.now) c.in-Feed.host) c.in-Some.trace.now.frames) c.args.self.now c.feed.new.self)
+    (StopsWithin (events_of (hosts_of c.args.plans.now) (map trace_frames c.args.traces.now) (said_of c.args.command.now)) c.args.self.now
+    c.feed.new.self)
+    (λ error. of_feed (λ (said : List Said). StopsWithin said c.args.self.now c.feed.new.self error) (hosts_of c.args.plans.now)
+    c.args.traces.now c.args.command.now c.in-Feed.host c.in-Feed.trace c.in-Some.trace.now c.in-Feed.is found)
+    c.feed.ensures.err

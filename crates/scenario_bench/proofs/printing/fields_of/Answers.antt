@@ -1,0 +1,8 @@
+use Rattle.scenario_bench.proofs.Printed.{grows}
+use Rattle.scenario_bench.proofs.printing.fields_of.Goals as goal
+
+pub returns : goal.returns
+returns c = grows _ c.push.ensures.items (grows _ c.push_resets.ensures.text (grows _ c.push_field-7.ensures.text
+    (grows _ c.push_field-6.ensures.text (grows _ c.push_exact.ensures.text (grows _ c.push_field-5.ensures.text
+    (grows _ c.push_field-4.ensures.text (grows _ c.push_field-3.ensures.text (grows _ c.push_field-2.ensures.text
+    (grows _ c.push_field.ensures.text c.new-line.ensures)))))))))
