@@ -3,7 +3,7 @@ use Rattle.std.proofs.Common.{◌≡◌, ◌≢◌, ◌<◌, ◌≤◌, ◌++◌
 use Rattle.std.proofs.Common.{ap, append_assoc, arith, refl, sym, subst, ◌∙◌}
 use Rattle.std.proofs.lemmas.Bool.Decides.{nat_tests}
 use Rattle.std.proofs.lemmas.List.{append-nil}
-use Rattle.std.specs.Prelude.{Err, IfErr, IfSome, MatchBool, Ok, Result}
+use Rattle.std.specs.Prelude.{Err, IfErr, IfSome, IsErr, MatchBool, Ok, OnOk, Result}
 use Rattle.std.specs.Io.KnownBytes.{Appends, Keeps}
 use Rattle.adapter_server.specs.Answers.{AnswersLine, Refuses}
 use Rattle.server_output.specs.Order.{WritesText}
@@ -175,3 +175,7 @@ never_read causes.Write same = cc
 pub whatever_error : {T E : Type 0} (result : Result T E) (Q : E → Type 0) (P : Type 0) → P → IfErr result (λ error. Q error → P)
 whatever_error (Ok value) Q P holds = tt
 whatever_error (Err error) Q P holds = λ q. holds
+
+pub never_ok : {T E : Type 0} (result : Result T E) (P : Type 0) → IsErr result → OnOk result P
+never_ok (Ok value) P is = absurd (cc)
+never_ok (Err error) P is = tt

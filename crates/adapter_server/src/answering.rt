@@ -88,40 +88,40 @@ fn answer_session<W: Write>(
     ensures { TellsAnswer result (W.contents out.old) (W.contents out.new)
         (SessionDoes request.now (request_said request.now said.now session.old) session.old) session.new }
 {
-    match request {
-        Request::Read(wanted, address) => read(session, alloc, out, said, *wanted, *address),
-        Request::Write(address, bytes) => {
-            write(session, alloc, out, said, *address, bytes.as_slice())
+    match *request {
+        Request::Read(wanted, address) => read(session, alloc, out, said, wanted, address),
+        Request::Write(address, ref bytes) => {
+            write(session, alloc, out, said, address, bytes.as_slice())
         }
-        Request::Look(what) => look(session, alloc, out, *what),
+        Request::Look(what) => look(session, alloc, out, what),
         Request::WritePort(width, port, value) => {
-            session.function.write_port(*port, *width, *value);
+            session.function.write_port(port, width, value);
             say(out, b"OK\n")
         }
         Request::Set(setting) => {
-            session.set(*setting);
+            session.set(setting);
             say(out, b"OK\n")
         }
-        Request::Step(kind) => perform(session, alloc, out, said, Task::Step(*kind), &mut []),
-        Request::Arrive(frame) => {
+        Request::Step(kind) => perform(session, alloc, out, said, Task::Step(kind), &mut []),
+        Request::Arrive(ref frame) => {
             let task = Task::Arrive(frame.as_slice());
             perform(session, alloc, out, said, task, &mut [])
         }
         Request::Settle => perform(session, alloc, out, said, Task::Settle, &mut []),
-        Request::Offer(frame) => {
+        Request::Offer(ref frame) => {
             let task = Task::Offer(frame.as_slice());
             perform(session, alloc, out, said, task, &mut [])
         }
         Request::Choose(limit) => {
-            perform(session, alloc, out, said, Task::Choose(*limit), &mut [])
+            perform(session, alloc, out, said, Task::Choose(limit), &mut [])
         }
         Request::ClockStep(nanoseconds) => {
-            let time = session.clock.checked_add(*nanoseconds);
+            let time = session.clock.checked_add(nanoseconds);
             move_clock(session, alloc, out, said, time)
         }
         Request::ClockSet(time) => {
             // The clock never goes back.
-            let time = session.clock.max(*time);
+            let time = session.clock.max(time);
             move_clock(session, alloc, out, said, Some(time))
         }
         Request::Save | Request::Restore => Ok(()),

@@ -48,12 +48,13 @@ pub(crate) fn new_server(
     // Contracts don't define the address of the memory, so the clause uses the result's address.
     ensures { IfOk result (λ server. server ≡ new_server options.now player server.session.device.address) }
 {
+    let device = new_device(alloc, options)?;
     let (agenda, recorder) = match player {
         Some(player) => (Some(player.agenda), Some(player.recorder)),
         None => (None, None),
     };
     let session = Session {
-        device: new_device(alloc, options)?,
+        device,
         function: PciFunction::new(options.registers),
         clock: 0,
         kept: Kept {

@@ -37,7 +37,6 @@ fn answer_and_send<W: Write>(
 
 /// Answers each line of the input before reading the next line, until the input ends. The errors are those of
 /// [`serve`].
-#[tactic(auto, using(crate::proofs::ServedLines::never_read))]
 fn serve_lines<R: BufRead, W: Write>(
     server: &mut Server,
     alloc: Global,

@@ -113,11 +113,11 @@ impl Session {
         ensures { IfOk result (λ copy. IsCopied self.now copy) }
     {
         Ok(Session {
+            agenda: self.agenda.clone()?,
+            kept: self.kept.clone()?,
             device: self.device.copy()?,
             function: self.function,
             clock: self.clock,
-            kept: self.kept.clone()?,
-            agenda: self.agenda.clone()?,
             targets: self.targets,
         })
     }

@@ -3,7 +3,9 @@ use Rattle.server_requests.specs.LinesRead.{IsNextLine}
 use Rattle.server_requests.specs.declared.line_reader.NextLine.{NextLine}
 use Rattle.adapter_server.specs.declared.serve_error.ServeError.TheVariants as errors
 use Rattle.server_output.proofs.PartsWritten.{whatever_err}
-use Rattle.adapter_server.proofs.ServedLines.{serves_front, serves_lines, serves_next, serves_none, whatever_error}
+use Rattle.server_output.specs.declared.answer_error.AnswerError.TheVariants as causes
+use Rattle.adapter_server.proofs.FromNew.{read_from}
+use Rattle.adapter_server.proofs.ServedLines.{never_ok, never_read, serves_front, serves_lines, serves_next, serves_none, whatever_error}
 use Rattle.adapter_server.proofs.ServedParts.{answering_stopped, serves_part, serves_stopped}
 use Rattle.adapter_server.proofs.server.serve_lines.Goals as goal
 
@@ -33,6 +35,16 @@ returns-in-End-clause-ok g c =
     c.loop-count.server (contents c.args.output.now) (contents c.loop-count.output) c.loop-count.invariant.so_far
     (subst (λ (next : NextLine). IsNextLine next c.next_line.new.line.items (left c.loop-count.input) (left c.next_line.new.reader))
     c.in-End.is c.in_ok-next.ensures.next)
+
+pub returns-in_err-line-clause-ok : goal.returns-in_err-line-clause-ok
+returns-in_err-line-clause-ok g c = never_ok c.from_residual.result _ c.from_residual.ensures.0
+
+pub returns-in_err-next-clause-ok : goal.returns-in_err-next-clause-ok
+returns-in_err-next-clause-ok g c = never_ok c.from_residual-in_err-next.result _ c.from_residual-in_err-next.ensures.0
+
+pub returns-in_err-line-clause-read : goal.returns-in_err-line-clause-read
+returns-in_err-line-clause-read g c =
+    read_from c.from_residual.result errors.Memory _ c.from_residual.ensures.1 (λ read. absurd (never_read causes.Memory read))
 
 pub returns-in_err-next-clause-read : goal.returns-in_err-next-clause-read
 returns-in_err-next-clause-read g c =
