@@ -6,8 +6,12 @@ import textwrap
 from typing import NamedTuple
 
 CODES = os.path.join("crates", "nicbench", "src", "codes.rt")
-ENTRY = re.compile(r'const (E\d+): Code = Code \{\s*label: "(E\d+) (\w+)",\s*status: (\d),'
-                   r'\s*text: "((?:[^"\\]|\\.)*)",\s*\};', re.S)
+# A variant, with its meaning as a comment.
+VARIANT = re.compile(r"^((?:    /// .*\n)*)    (E\d+),$", re.M)
+# The arms of a label, of statuses, and of a meaning that the program prints.
+LABEL = re.compile(r'^ +Code::(E\d+) => "(E\d+) (\w+)",$', re.M)
+STATUS = re.compile(r"^ +((?:Code::E\d+[ |\n]*)+|_ )=> (\d),$", re.M)
+ADVICE = re.compile(r'^ +Code::(E\d+) =>(?: {)?\s+"((?:[^"\\]|\\.|\\\n)*)"', re.M)
 # A row of the help: a code, its name, and its meaning, which may go on in lines that begin with 16 spaces.
 ROW = re.compile(r"^  (E\d+) (\w+) +\S.*(?:\n {16}\S.*)*", re.M)
 HELP_TEXT = re.compile(r'(?P<name>\b(?:RUN|PROGRAM)_NOTE: &str =\s+")(?P<text>(?:[^"\\]|\\.)*)')
@@ -24,18 +28,23 @@ class Code(NamedTuple):
 
 
 def read_codes(root: str) -> list[Code]:
-    """The table of codes, in its order. Raises ValueError if a constant has the label of another one, or another form
-    than ENTRY.
-    """
+    """The codes, in their order. Raises ValueError if a code has another one's label, no label, or not one meaning."""
     with open(os.path.join(root, CODES), encoding="utf-8") as file:
         source = file.read()
+    labels, advice = {}, {}
+    for variant, code, name in LABEL.findall(source):
+        if variant != code:
+            raise ValueError(f"{CODES}: {variant} has the label of {code}")
+        labels[code] = name
+    for code, text in ADVICE.findall(source[source.index("fn advice"):]):
+        advice[code] = re.sub(r"\\\n\s*", "", text)
+    statuses = {code: int(status) for arm, status in STATUS.findall(source) for code in re.findall(r"E\d+|_", arm)}
     out = []
-    for constant, code, name, status, text in ENTRY.findall(source):
-        if constant != code:
-            raise ValueError(f"{CODES}: {constant} has the label of {code}")
-        out.append(Code(code, name, int(status), re.sub(r"\\\n\s*", "", text)))
-    if len(out) != len(re.findall(r": Code = ", source)):
-        raise ValueError(f"{CODES}: a code doesn't have the form of the others")
+    for comment, code in VARIANT.findall(source):
+        text = " ".join(line.strip(" /") for line in comment.splitlines())
+        if code not in labels or bool(text) == (code in advice):
+            raise ValueError(f"{CODES}: {code} has no label, or not one meaning")
+        out.append(Code(code, labels[code], statuses.get(code, statuses["_"]), text or advice[code]))
     return out
 
 

@@ -1,7 +1,5 @@
--- The exit status of the program after a fault, and what is printed with the fault's code (our choice). The status is 4 if memory is
--- refused; 3 if a file or a stream can't be opened, read or written, is too long, or is used twice; 1 for every other fault, such as an
--- input that is refused.
-use Rattle.std.specs.Prelude.{◌≡◌, ◌⊎◌, ℕ, List, string_bytes}
+-- The exit status of the program after a fault, and what is printed with the fault's code (our choice).
+use Rattle.std.specs.Prelude.{◌≡◌, ℕ}
 use Rattle.adapter_server.specs.declared.serve_error.ServeError.{ServeError}
 use Rattle.adapter_server.specs.declared.serve_error.ServeError.TheVariants as server
 use Rattle.drive.specs.declared.drive_error.DriveError.{DriveError}
@@ -20,27 +18,18 @@ use Rattle.scenario_bench.specs.declared.bench_error.BenchError.{BenchError}
 use Rattle.scenario_bench.specs.declared.bench_error.BenchError.TheVariants as bench
 use Rattle.step_schedules.specs.declared.schedule_error.ScheduleError.{ScheduleError}
 use Rattle.step_schedules.specs.declared.schedule_error.ScheduleError.TheVariants as schedules
+use Rattle.nicbench.specs.Codes.{status_of_code}
 use Rattle.nicbench.specs.declared.fault.Detail.{Detail}
 use Rattle.nicbench.specs.declared.fault.Detail.TheVariants as details
 use Rattle.nicbench.specs.declared.fault.Fault.{Fault}
 
 -- The fault's code has this exit status, and this is printed with the code. Which of the codes with this status it is, isn't stated.
 abbrev pub HasStatusAndDetail : ℕ → Detail → Fault → Type 0
-HasStatusAndDetail status detail fault = (fault.code.status ≡ status) × (fault.detail ≡ detail)
+HasStatusAndDetail status detail fault = (status_of_code fault.code ≡ status) × (fault.detail ≡ detail)
 
 -- nothing is printed with the code
 abbrev pub no_detail : Detail
 no_detail = details.Nothing
-
--- this path is printed with the code
-abbrev pub IsPath : List ℕ → Detail → Type 0
-IsPath path (details.Path text) = string_bytes text ≡ path
-IsPath path _ = ⊥
-
--- the fault of a file that is used twice: status 3 with the file's path, or status 4 if memory for the path was refused
-abbrev pub IsSameFile : List ℕ → Fault → Type 0
-IsSameFile path fault =
-    ((fault.code.status ≡ 3) × IsPath path fault.detail) ⊎ HasStatusAndDetail 4 no_detail fault
 
 -- the status of an input that isn't a trace, can't be read, or for which memory was refused
 abbrev pub status_of_input : ReadError → ℕ
@@ -48,7 +37,7 @@ status_of_input input.Memory = 4
 status_of_input input.Read = 3
 status_of_input _ = 1
 
--- the status after each other error, as the head of this file states
+-- the status after each other error, by the rule of `status_of_code`
 abbrev pub status_of_plan : PlanError → ℕ
 status_of_plan plan.Memory = 4
 status_of_plan _ = 1
@@ -66,6 +55,7 @@ status_of_schedule schedules.Memory = 4
 
 abbrev pub status_of_file : FileError → ℕ
 status_of_file (files.Open path) = 3
+status_of_file (files.Used path) = 3
 status_of_file (files.Input error path) = status_of_input error
 status_of_file files.TraceMemory = 4
 status_of_file files.Pipe = 3
@@ -102,6 +92,7 @@ detail_of_schedule error = details.Schedule error
 
 abbrev pub detail_of_file : FileError → Detail
 detail_of_file (files.Open path) = details.Path path
+detail_of_file (files.Used path) = details.Path path
 detail_of_file (files.Input error path) = details.Input path
 detail_of_file (files.Schedule error) = detail_of_schedule error
 detail_of_file files.OtherOptions = details.Options

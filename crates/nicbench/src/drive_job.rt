@@ -1,7 +1,7 @@
 //! The command `drive`.
 ghost use Rattle.std.specs.Prelude.{◌<◌};
 
-use crate::codes::E69;
+use crate::codes::Code;
 use crate::fault::Fault;
 use command_line::DriveJob;
 use drive::{DriveCounts, DriveLimits, DriveRings, QtestBus, drive};
@@ -82,7 +82,7 @@ fn report_counts(
     if counts.is_complete(frames, job.expect) {
         Ok(())
     } else {
-        Err(Fault::of(E69))
+        Err(Fault::of(Code::E69))
     }
 }
 

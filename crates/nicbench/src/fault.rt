@@ -1,11 +1,9 @@
 //! Why the program ended.
 ghost use Rattle.std.specs.Prelude.{◌≡◌};
+ghost use Rattle.nicbench.specs.Codes.{status_of_code};
 ghost use Rattle.nicbench.specs.Faults as spec;
 
-use crate::codes::{
-    Code, E40, E41, E42, E43, E44, E45, E46, E47, E50, E51, E52, E53, E54, E55, E56, E57, E59, E60,
-    E61, E62, E63, E64, E65, E66, E67, E68, E70, E72, E73,
-};
+use crate::codes::Code;
 use adapter_server::ServeError;
 use bring_up::InitError;
 use drive::{BusFault, DriveError};
@@ -49,31 +47,31 @@ pub(crate) enum Detail {
 /// Returns the code of the reason why an input can't be used. The input isn't a valid trace, couldn't be read, or needs
 /// memory that was refused.
 fn input_code(error: ReadError) -> Code
-    ensures { result.status ≡ spec.status_of_input error }
+    ensures { status_of_code result ≡ spec.status_of_input error }
 {
     match error {
-        ReadError::Header => E60,
-        ReadError::Magic => E61,
-        ReadError::Version => E62,
-        ReadError::LinkType => E63,
-        ReadError::Record => E64,
-        ReadError::Memory => E65,
-        ReadError::Read => E66,
+        ReadError::Header => Code::E60,
+        ReadError::Magic => Code::E61,
+        ReadError::Version => Code::E62,
+        ReadError::LinkType => Code::E63,
+        ReadError::Record => Code::E64,
+        ReadError::Memory => Code::E65,
+        ReadError::Read => Code::E66,
     }
 }
 
 /// Returns the code of a faulty line of a scenario.
 fn line_code(fault: LineFault) -> Code
-    ensures { result.status ≡ 1 }
+    ensures { status_of_code result ≡ 1 }
 {
     match fault {
-        LineFault::Word => E50,
-        LineFault::Count => E51,
-        LineFault::Value => E52,
-        LineFault::Name => E53,
-        LineFault::Order => E54,
-        LineFault::Long => E55,
-        LineFault::Text => E56,
+        LineFault::Word => Code::E50,
+        LineFault::Count => Code::E51,
+        LineFault::Value => Code::E52,
+        LineFault::Name => Code::E53,
+        LineFault::Order => Code::E54,
+        LineFault::Long => Code::E55,
+        LineFault::Text => Code::E56,
     }
 }
 
@@ -104,7 +102,7 @@ impl Display for Fault {
 impl Fault {
     /// Returns the fault with this code, without a detail.
     pub(crate) fn of(code: Code) -> Fault
-        ensures { spec.HasStatusAndDetail code.status spec.no_detail result }
+        ensures { spec.HasStatusAndDetail (status_of_code code) spec.no_detail result }
     {
         Fault {
             code,
@@ -112,31 +110,17 @@ impl Fault {
         }
     }
 
-    /// Returns the fault of a run whose `--events` file is also a file that the run reads or writes in OUTDIR: E73 with
-    /// the file's path, or E57 if there is no memory for the path.
-    pub(crate) fn same_file(alloc: Global, path: &str) -> Fault
-        ensures { spec.IsSameFile path.now result }
-    {
-        match String::from_str(alloc, path) {
-            Ok(path) => Fault {
-                code: E73,
-                detail: Detail::Path(path),
-            },
-            Err(_) => Fault::of(E57),
-        }
-    }
-
     /// Returns whether existing files in OUTDIR are certainly unchanged after a run that ended with this fault. A run
     /// writes these files after its last event, so they can change only if the fault is a failed write (E67).
     pub(crate) fn keeps_old_files(&self) -> bool {
-        self.code.label != E67.label
+        !matches!(self.code, Code::E67)
     }
 
     /// Returns the meaning of a fault of an input, and what a user can do. In the text of the code, the path of the
     /// input replaces the placeholder `IN`. Returns `None` for other faults, and if there is no memory for the text.
     pub(crate) fn advice(&self, alloc: Global) -> Option<String> {
         match &self.detail {
-            Detail::Input(path) => self.code.text.replace(alloc, "IN", path.as_str()).ok(),
+            Detail::Input(path) => self.code.advice()?.replace(alloc, "IN", path.as_str()).ok(),
             _ => None,
         }
     }
@@ -147,9 +131,9 @@ fn schedule_fault(error: ScheduleError) -> Fault
     ensures { spec.HasStatusAndDetail (spec.status_of_schedule error) (spec.detail_of_schedule error) result }
 {
     match error {
-        ScheduleError::Memory => Fault::of(E57),
+        ScheduleError::Memory => Fault::of(Code::E57),
         ScheduleError::Text | ScheduleError::Line { .. } => Fault {
-            code: E70,
+            code: Code::E70,
             detail: Detail::Schedule(error),
         },
     }
@@ -161,22 +145,26 @@ impl From<FileError> for Fault {
     fn from(error: FileError) -> Fault {
         match error {
             FileError::Open(path) => Fault {
-                code: E68,
+                code: Code::E68,
+                detail: Detail::Path(path),
+            },
+            FileError::Used(path) => Fault {
+                code: Code::E73,
                 detail: Detail::Path(path),
             },
             FileError::Input(error, path) => Fault {
                 code: input_code(error),
                 detail: Detail::Input(path),
             },
-            FileError::TraceMemory => Fault::of(E65),
-            FileError::Pipe => Fault::of(E72),
+            FileError::TraceMemory => Fault::of(Code::E65),
+            FileError::Pipe => Fault::of(Code::E72),
             FileError::Schedule(error) => schedule_fault(error),
             FileError::OtherOptions => Fault {
-                code: E70,
+                code: Code::E70,
                 detail: Detail::Options,
             },
-            FileError::Write => Fault::of(E67),
-            FileError::Memory => Fault::of(E57),
+            FileError::Write => Fault::of(Code::E67),
+            FileError::Memory => Fault::of(Code::E57),
         }
     }
 }
@@ -185,7 +173,7 @@ impl From<WriteError> for Fault {
     ghost from_gives = { λ _. spec.HasStatusAndDetail 3 spec.no_detail };
 
     fn from(_error: WriteError) -> Fault {
-        Fault::of(E67)
+        Fault::of(Code::E67)
     }
 }
 
@@ -198,7 +186,7 @@ impl From<Refusal> for Fault {
                 code: line_code(fault),
                 detail: Detail::Line(line),
             },
-            Refusal::Memory => Fault::of(E57),
+            Refusal::Memory => Fault::of(Code::E57),
         }
     }
 }
@@ -208,19 +196,19 @@ impl From<BenchError> for Fault {
 
     fn from(error: BenchError) -> Fault {
         match error {
-            BenchError::Plan(PlanError::Name) => Fault::of(E40),
-            BenchError::Plan(PlanError::Ends) => Fault::of(E41),
-            BenchError::Plan(PlanError::Hosts) => Fault::of(E42),
-            BenchError::Plan(PlanError::Address) => Fault::of(E43),
-            BenchError::Plan(PlanError::Config) => Fault::of(E44),
-            BenchError::Plan(PlanError::Memory) => Fault::of(E45),
+            BenchError::Plan(PlanError::Name) => Fault::of(Code::E40),
+            BenchError::Plan(PlanError::Ends) => Fault::of(Code::E41),
+            BenchError::Plan(PlanError::Hosts) => Fault::of(Code::E42),
+            BenchError::Plan(PlanError::Address) => Fault::of(Code::E43),
+            BenchError::Plan(PlanError::Config) => Fault::of(Code::E44),
+            BenchError::Plan(PlanError::Memory) => Fault::of(Code::E45),
             BenchError::Plan(PlanError::Init(_, reason)) => Fault {
-                code: E46,
+                code: Code::E46,
                 detail: Detail::Reason(reason),
             },
-            BenchError::Run(_) => Fault::of(E47),
-            BenchError::Memory => Fault::of(E57),
-            BenchError::Write(_) => Fault::of(E67),
+            BenchError::Run(_) => Fault::of(Code::E47),
+            BenchError::Memory => Fault::of(Code::E57),
+            BenchError::Write(_) => Fault::of(Code::E67),
         }
     }
 }
@@ -230,9 +218,9 @@ impl From<ServeError> for Fault {
 
     fn from(error: ServeError) -> Fault {
         match error {
-            ServeError::Memory => Fault::of(E57),
-            ServeError::Read => Fault::of(E66),
-            ServeError::Write => Fault::of(E67),
+            ServeError::Memory => Fault::of(Code::E57),
+            ServeError::Read => Fault::of(Code::E66),
+            ServeError::Write => Fault::of(Code::E67),
         }
     }
 }
@@ -242,16 +230,16 @@ impl From<DriveError> for Fault {
 
     fn from(error: DriveError) -> Fault {
         match error {
-            DriveError::Memory => Fault::of(E57),
+            DriveError::Memory => Fault::of(Code::E57),
             DriveError::Init(reason) => Fault {
-                code: E46,
+                code: Code::E46,
                 detail: Detail::Reason(reason),
             },
-            DriveError::Bus(BusFault::Memory) => Fault::of(E57),
-            DriveError::Bus(BusFault::Answer) => Fault::of(E59),
-            DriveError::Bus(BusFault::Read) => Fault::of(E66),
-            DriveError::Bus(BusFault::Write) => Fault::of(E67),
-            DriveError::Write => Fault::of(E67),
+            DriveError::Bus(BusFault::Memory) => Fault::of(Code::E57),
+            DriveError::Bus(BusFault::Answer) => Fault::of(Code::E59),
+            DriveError::Bus(BusFault::Read) => Fault::of(Code::E66),
+            DriveError::Bus(BusFault::Write) => Fault::of(Code::E67),
+            DriveError::Write => Fault::of(Code::E67),
         }
     }
 }
@@ -260,7 +248,7 @@ impl From<AllocError> for Fault {
     ghost from_gives = { λ _. spec.HasStatusAndDetail 4 spec.no_detail };
 
     fn from(_error: AllocError) -> Fault {
-        Fault::of(E57)
+        Fault::of(Code::E57)
     }
 }
 
@@ -268,6 +256,6 @@ impl<T: Drop> From<AllocFailed<T>> for Fault {
     ghost from_gives = { λ _. spec.HasStatusAndDetail 4 spec.no_detail };
 
     fn from(_error: AllocFailed<T>) -> Fault {
-        Fault::of(E57)
+        Fault::of(Code::E57)
     }
 }

@@ -7,10 +7,11 @@ mod codes;
 mod drive_job;
 mod events_file;
 mod fault;
+mod output_names;
 mod run;
 mod serve;
 
-use crate::codes::E57;
+use crate::codes::Code;
 use crate::drive_job::run_drive;
 use crate::fault::Fault;
 use crate::run::run_scenario;
@@ -39,8 +40,8 @@ fn words(rt: &HostRuntime) -> Result<Vec<String>, LineError<'static>> {
 fn refuse(rt: &HostRuntime, error: &LineError<'_>) -> ExitCode {
     match error {
         LineError::Memory => {
-            let _ = eprintln!(rt; "nicbench: {E57}");
-            ExitCode::from(E57.status)
+            let _ = eprintln!(rt; "nicbench: {}", Code::E57);
+            ExitCode::from(Code::E57.status())
         }
         LineError::Words(_) | LineError::Value(_) | LineError::NotUnicode => {
             let _ = eprint!(rt; "{error}");
@@ -60,7 +61,7 @@ fn report(rt: &HostRuntime, job: &Job<'_>, fault: &Fault) -> ExitCode {
     if matches!(job, Job::Run(_)) && fault.keeps_old_files() {
         let _ = eprintln!(rt; "nicbench: existing files in OUTDIR are unchanged");
     }
-    ExitCode::from(fault.code.status)
+    ExitCode::from(fault.code.status())
 }
 
 /// Returns the outcome of a job of `program_files`, with its error converted to a fault.

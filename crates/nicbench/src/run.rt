@@ -1,93 +1,24 @@
 //! The command `run`.
-ghost use Rattle.std.specs.Prelude.{◌≡◌, ◌<◌, ◌≤◌, ◌+◌, All, IfOk, IfSome, OnOk, length};
+ghost use Rattle.std.specs.Prelude.{◌≡◌, ◌<◌, ◌≤◌, All, IfSome, length};
 ghost use Rattle.scenario_bench.specs.FileNames.{sockets_in, wires_in};
 
 use crate::events_file::create_events_sink;
 use crate::fault::Fault;
+use crate::output_names::{OutputNames, output_names};
 use command_line::RunJob;
-use network_plan::HostPlan;
 use pcap_bench::{Sink, Trace, WriteError, WriterSink};
 use program_files::{
-    FileSink, STANDARD_STREAM, StandardError, create_all, find_folder, read_bytes, read_trace,
-    report_play, unit_of,
+    STANDARD_STREAM, StandardError, create_all, find_folder, read_bytes, read_traces, report_play,
+    unit_of,
 };
 use scenario::Scenario;
-use scenario_bench::{Refusals, Summary, bench, print_summary, socket_files, wire_files};
-use std::alloc::{AllocError, Global};
-use std::fs::File;
+use scenario_bench::{Refusals, Summary, bench, print_summary};
 use std::io;
 
 /// Reads and parses the scenario at this path. Fails if it can't be read, or if a line is invalid.
 fn read_scenario(rt: &HostRuntime, path: &str) -> Result<Scenario, Fault> {
     let text = read_bytes(rt, path)?;
     Ok(Scenario::read(rt.alloc(), text.as_slice())?)
-}
-
-/// Reads the trace at the path `name`, and appends the trace to `traces`.
-fn push_trace(rt: &HostRuntime, name: &str, traces: &mut Vec<Trace>) -> Result<(), Fault>
-    ensures { OnOk result (length traces.new.items ≡ length traces.old.items + 1) }
-{
-    traces.push(read_trace(rt, name)?)?;
-    Ok(())
-}
-
-/// Reads the traces at these paths, in order.
-fn read_traces(rt: &HostRuntime, names: &[String]) -> Result<Vec<Trace>, Fault>
-    ensures { IfOk result (λ traces. length traces.items ≡ length names.now) }
-{
-    let mut traces = Vec::new(rt.alloc());
-    for name in names {
-        push_trace(rt, name.as_str(), &mut traces)?;
-    }
-    Ok(traces)
-}
-
-/// Returns the name of the file of each wire ([`wire_files`]) if the job asks for these files, and no names otherwise.
-pub(crate) fn names_of_wires(
-    alloc: Global,
-    job: &RunJob<'_>,
-    plans: &[HostPlan],
-) -> Result<Vec<String>, AllocError>
-    ensures { IfOk result (λ names. length names.items ≤ wires_in plans.now) }
-{
-    if job.wires {
-        wire_files(alloc, plans)
-    } else {
-        Ok(Vec::new(alloc))
-    }
-}
-
-/// Opens or creates a file for each socket, in a folder. Fails if the folder doesn't exist.
-fn create_socket_sinks(
-    rt: &HostRuntime,
-    directory: &str,
-    plans: &[HostPlan],
-) -> Result<Vec<FileSink<File>>, Fault>
-    ensures count { IfOk result (λ sinks. length sinks.items ≡ sockets_in plans.now) }
-    // Each sink's count of failures is 0.
-    ensures countable { IfOk result (λ sinks.
-        All (λ sink. ⟦<FileSink<File> as Sink>⟧.failures sink ≡ 0) sinks.items) }
-{
-    find_folder(rt, directory)?;
-    let names = socket_files(rt.alloc(), plans)?;
-    let sinks = create_all(rt, directory, names.as_slice())?;
-    Ok(sinks)
-}
-
-/// Opens or creates a file for each wire, if the job asks for these files.
-fn create_wire_sinks(
-    rt: &HostRuntime,
-    job: &RunJob<'_>,
-    plans: &[HostPlan],
-) -> Result<Vec<FileSink<File>>, Fault>
-    ensures count { IfOk result (λ sinks. length sinks.items ≤ wires_in plans.now) }
-    // Each sink's count of failures is 0.
-    ensures countable { IfOk result (λ sinks.
-        All (λ sink. ⟦<FileSink<File> as Sink>⟧.failures sink ≡ 0) sinks.items) }
-{
-    let names = names_of_wires(rt.alloc(), job, plans)?;
-    let sinks = create_all(rt, job.directory, names.as_slice())?;
-    Ok(sinks)
 }
 
 /// Plays a scenario, which feeds `traces`. Then writes the trace of each socket, and of each wire that has a sink, to
@@ -126,20 +57,23 @@ fn play_to_sinks<W: Sink>(
     }
 }
 
-/// Opens the files in OUTDIR, plays a scenario, which feeds `traces`, and writes the files. The files of sockets are
-/// written before those of wires, which are written only if the job asks for them. There must be one trace for each
-/// trace that the scenario feeds.
+/// Opens the files with these names in OUTDIR, plays a scenario, which feeds `traces`, and writes the files. The files
+/// of sockets are written before those of wires. Fails if OUTDIR doesn't exist. There must be one trace for each trace
+/// that the scenario feeds, one name for each socket, and at most one for each wire.
 fn play(
     rt: &HostRuntime,
     job: &RunJob<'_>,
     scenario: &Scenario,
     traces: &[Trace],
+    names: &OutputNames,
 ) -> Result<Summary, Fault>
-    requires { length traces.now ≡ length scenario.now.traces.items }
+    requires traces { length traces.now ≡ length scenario.now.traces.items }
+    requires sockets { length names.now.sockets.items ≡ sockets_in scenario.now.plan.hosts.items }
+    requires wires { length names.now.wires.items ≤ wires_in scenario.now.plan.hosts.items }
 {
-    let plans = scenario.plan.hosts.as_slice();
-    let mut sinks = create_socket_sinks(rt, job.directory, plans)?;
-    let mut wire_sinks = create_wire_sinks(rt, job, plans)?;
+    find_folder(rt, job.directory)?;
+    let mut sinks = create_all(rt, job.directory, names.sockets.as_slice())?;
+    let mut wire_sinks = create_all(rt, job.directory, names.wires.as_slice())?;
     play_to_sinks(
         rt,
         job,
@@ -220,8 +154,8 @@ fn print<W: Sink>(
     }
 }
 
-/// Opens the file for the lines of events, if the job names one, plays a scenario with these traces, and prints the
-/// lines of events and of hosts. There must be one trace for each trace that the scenario feeds.
+/// Opens the files of a run, plays its scenario with these traces, writes the files, and prints the lines of events and
+/// of hosts. There must be one trace for each trace that the scenario feeds.
 fn play_scenario(
     rt: &HostRuntime,
     job: &RunJob<'_>,
@@ -230,8 +164,9 @@ fn play_scenario(
 ) -> Result<(), Fault>
     requires { length traces.now ≡ length scenario.now.traces.items }
 {
-    let mut file = create_events_sink(rt, job, scenario)?;
-    let summary = play(rt, job, scenario, traces)?;
+    let names = output_names(rt.alloc(), job, scenario.plan.hosts.as_slice())?;
+    let mut file = create_events_sink(rt, job, scenario, &names)?;
+    let summary = play(rt, job, scenario, traces, &names)?;
     print(rt, job, &summary, &mut file)
 }
 

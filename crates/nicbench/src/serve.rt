@@ -2,7 +2,7 @@
 ghost use Rattle.std.specs.Prelude.{◌≡◌, IfOk};
 ghost use Rattle.nicbench.specs.Served.{IsImageFor, link_of, options_of};
 
-use crate::codes::{E58, E71};
+use crate::codes::Code;
 use crate::fault::Fault;
 use adapter_server::{ServeOptions, serve};
 use command_line::{ServeImage, ServeJob, ServeLink};
@@ -51,7 +51,7 @@ fn image_of(rt: &HostRuntime, image: ServeImage<'_>) -> Result<Image, Fault>
     let bytes = read_front(rt, path, IMAGE_BYTES as u64 + 1)?;
     match image_in(bytes.as_slice()) {
         Some(image) => Ok(image),
-        None => Err(Fault::of(E58)),
+        None => Err(Fault::of(Code::E58)),
     }
 }
 
@@ -102,7 +102,7 @@ fn report_unmet(rt: &HostRuntime, player: &Player) -> Result<(), Fault> {
         // The exit status shows unmet deviations even if this line can't be written.
         let _ = eprintln!(rt; "nicbench: not met: {line}");
     }
-    Err(Fault::of(E71))
+    Err(Fault::of(Code::E71))
 }
 
 /// Stores the recorded schedule if there is a file for it, with the adapter's options. `words` are the words of the

@@ -6,8 +6,8 @@ use crate::late_file::LateFile;
 use crate::progress::{ReportingReader, Watched};
 use pcap_trace::{ReadError, ReaderSource, Sink, SliceSource, Trace, WriterSink};
 use std::alloc::{AllocError, Global};
-use std::fs::{self, Metadata, OpenFile, OpenOptions};
-use std::io::{self, ErrorKind, Input, Read};
+use std::fs::{self, OpenFile, OpenOptions};
+use std::io::{ErrorKind, Input, Read};
 use std::os::unix::fs::{FileTypeExt, MetadataExt};
 use std::rt::Files;
 
@@ -49,81 +49,46 @@ fn read_up_to<S: Read + Drop>(
 
 /// Reads standard input or a pipe to its end. Fails if there are more than [`MOST_PIPED`] bytes. The error of a failed
 /// read contains `path`.
-fn read_pipe<S: Read + Drop>(alloc: Global, path: &str, reader: S) -> Result<Vec<u8>, FileError> {
+fn read_pipe<F, S: Read + Drop>(
+    alloc: Global,
+    path: &str,
+    reader: S,
+) -> Result<Opened<F>, FileError> {
     // One byte more shows that the input is too long.
-    let bytes = read_up_to(alloc, path, reader, MOST_PIPED + 1)?;
-    if bytes.len() as u64 > MOST_PIPED {
-        return Err(FileError::Pipe);
-    }
-    Ok(bytes)
-}
-
-/// Opens a path for reading, and returns the file and its metadata.
-fn open_path<R: Files + AllocGlobal>(rt: &R, path: &str) -> Result<(R::File, Metadata), FileError> {
-    let Ok(file) = fs::open(rt, path) else {
-        return Err(FileError::open(rt.alloc(), path));
-    };
-    let Ok(metadata) = file.metadata() else {
-        return Err(FileError::open(rt.alloc(), path));
-    };
-    Ok((file, metadata))
-}
-
-/// The kinds of inputs with a path.
-#[derive(Clone, Copy)]
-enum Kind {
-    File,
-    Pipe,
-    Folder,
-    Device,
-}
-
-/// Returns the kind of an input: a device if it is no file, pipe or folder.
-fn kind_of(metadata: &Metadata) -> Kind {
-    let kind = metadata.file_type();
-    if kind.is_file() {
-        Kind::File
-    } else if kind.is_fifo() {
-        Kind::Pipe
-    } else if kind.is_dir() {
-        Kind::Folder
-    } else {
-        Kind::Device
+    match read_up_to(alloc, path, reader, MOST_PIPED + 1) {
+        Ok(bytes) if bytes.len() as u64 > MOST_PIPED => Err(FileError::Pipe),
+        Ok(bytes) => Ok(Opened::Piped(bytes)),
+        Err(error) => Err(error),
     }
 }
 
 /// Opens the input at a path that isn't `-`. A pipe is read to its end. A folder is refused, and so is a device, which
 /// may have no end.
 fn open_input<R: Files + AllocGlobal>(rt: &R, path: &str) -> Result<Opened<R::File>, FileError> {
-    let (file, metadata) = open_path(rt, path)?;
-    match kind_of(&metadata) {
-        Kind::File => Ok(Opened::File(file, metadata.len())),
-        Kind::Pipe => Ok(Opened::Piped(read_pipe(rt.alloc(), path, file)?)),
-        Kind::Folder => Err(FileError::input(rt.alloc(), ReadError::Read, path)),
-        Kind::Device => Err(FileError::open(rt.alloc(), path)),
+    let alloc = rt.alloc();
+    let Ok(file) = fs::open(rt, path) else {
+        return Err(FileError::open(alloc, path));
+    };
+    let Ok(metadata) = file.metadata() else {
+        return Err(FileError::open(alloc, path));
+    };
+    let kind = metadata.file_type();
+    if kind.is_file() {
+        Ok(Opened::File(file, metadata.len()))
+    } else if kind.is_fifo() {
+        read_pipe(alloc, path, file)
+    } else if kind.is_dir() {
+        Err(FileError::input(alloc, ReadError::Read, path))
+    } else {
+        Err(FileError::open(alloc, path))
     }
 }
 
 /// Opens the input at a path. The path `-` means standard input, which is read to its end, as a pipe is.
 fn open<R: Files + Input + AllocGlobal>(rt: &R, path: &str) -> Result<Opened<R::File>, FileError> {
-    if path == STANDARD_STREAM {
-        Ok(Opened::Piped(read_pipe(rt.alloc(), path, rt.reader())?))
-    } else {
-        open_input(rt, path)
-    }
-}
-
-/// Reads a trace from an input that was opened. Reports the progress of a long file.
-fn trace_of<R: Watched + Files + AllocGlobal>(
-    rt: &R,
-    input: Opened<R::File>,
-) -> Result<Trace, ReadError> {
-    match input {
-        Opened::File(file, length) => {
-            let reader = ReportingReader::new(rt, file, length);
-            Trace::read(rt.alloc(), &mut ReaderSource::new(reader, length))
-        }
-        Opened::Piped(bytes) => Trace::read(rt.alloc(), &mut SliceSource::new(bytes.as_slice())),
+    match path {
+        STANDARD_STREAM => read_pipe(rt.alloc(), path, rt.reader()),
+        _ => open_input(rt, path),
     }
 }
 
@@ -133,11 +98,33 @@ pub fn read_trace<R: Files + Input + Watched + AllocGlobal>(
     rt: &R,
     path: &str,
 ) -> Result<Trace, FileError> {
-    let input = open(rt, path)?;
-    match trace_of(rt, input) {
+    let alloc = rt.alloc();
+    let read = match open(rt, path) {
+        Ok(Opened::File(file, length)) => {
+            let reader = ReportingReader::new(rt, file, length);
+            Trace::read(alloc, &mut ReaderSource::new(reader, length))
+        }
+        Ok(Opened::Piped(bytes)) => Trace::read(alloc, &mut SliceSource::new(bytes.as_slice())),
+        Err(error) => return Err(error),
+    };
+    match read {
         Ok(trace) => Ok(trace),
-        Err(error) => Err(FileError::input(rt.alloc(), error, path)),
+        Err(error) => Err(FileError::input(alloc, error, path)),
     }
+}
+
+/// Reads the traces from the inputs at these paths, in order, as by [`read_trace`].
+pub fn read_traces<R: Files + Input + Watched + AllocGlobal>(
+    rt: &R,
+    paths: &[String],
+) -> Result<Vec<Trace>, FileError>
+    ensures { IfOk result (λ traces. length traces.items ≡ length paths.now) }
+{
+    let mut traces = Vec::new(rt.alloc());
+    for path in paths {
+        traces.push(read_trace(rt, path.as_str())?)?;
+    }
+    Ok(traces)
 }
 
 /// Reads all bytes of the input at a path, or of standard input if the path is `-`. Bytes that are appended after a
@@ -146,9 +133,10 @@ pub fn read_bytes<R: Files + Input + AllocGlobal>(
     rt: &R,
     path: &str,
 ) -> Result<Vec<u8>, FileError> {
-    match open(rt, path)? {
-        Opened::File(file, length) => read_up_to(rt.alloc(), path, file, length),
-        Opened::Piped(bytes) => Ok(bytes),
+    match open(rt, path) {
+        Ok(Opened::File(file, length)) => read_up_to(rt.alloc(), path, file, length),
+        Ok(Opened::Piped(bytes)) => Ok(bytes),
+        Err(error) => Err(error),
     }
 }
 
@@ -159,18 +147,11 @@ pub fn read_front<R: Files + Input + AllocGlobal>(
     path: &str,
     limit: u64,
 ) -> Result<Vec<u8>, FileError> {
-    match open(rt, path)? {
-        Opened::File(file, _) => read_up_to(rt.alloc(), path, file, limit),
-        Opened::Piped(bytes) => Ok(bytes),
+    match open(rt, path) {
+        Ok(Opened::File(file, _)) => read_up_to(rt.alloc(), path, file, limit),
+        Ok(Opened::Piped(bytes)) => Ok(bytes),
+        Err(error) => Err(error),
     }
-}
-
-/// Refuses the path `-`, for a job that reads something else from standard input.
-fn refuse_standard_input<R: AllocGlobal>(rt: &R, path: &str) -> Result<(), FileError> {
-    if path == STANDARD_STREAM {
-        return Err(FileError::open(rt.alloc(), path));
-    }
-    Ok(())
 }
 
 /// Reads a trace from a file or a pipe with a path. The path `-` is refused.
@@ -178,8 +159,10 @@ pub fn read_file_trace<R: Files + Input + Watched + AllocGlobal>(
     rt: &R,
     path: &str,
 ) -> Result<Trace, FileError> {
-    refuse_standard_input(rt, path)?;
-    read_trace(rt, path)
+    match path {
+        STANDARD_STREAM => Err(FileError::open(rt.alloc(), path)),
+        _ => read_trace(rt, path),
+    }
 }
 
 /// Reads all bytes of a file or a pipe with a path. The path `-` is refused.
@@ -187,8 +170,10 @@ pub fn read_file_bytes<R: Files + Input + AllocGlobal>(
     rt: &R,
     path: &str,
 ) -> Result<Vec<u8>, FileError> {
-    refuse_standard_input(rt, path)?;
-    read_bytes(rt, path)
+    match path {
+        STANDARD_STREAM => Err(FileError::open(rt.alloc(), path)),
+        _ => read_bytes(rt, path),
+    }
 }
 
 /// Opens a file for writing. A file that doesn't exist is created; an existing file keeps its bytes until the first new
@@ -211,6 +196,11 @@ pub fn create<R: Files + AllocGlobal>(rt: &R, path: &str) -> Result<FileSink<R::
     Ok(WriterSink::new(create_file(rt, path)?))
 }
 
+/// Returns the path of the file with this name in a folder. Fails only if memory is refused.
+fn path_in(alloc: Global, directory: &str, name: &str) -> Result<String, AllocError> {
+    format!(in alloc; "{directory}/{name}")
+}
+
 /// Opens or creates a file with this name in a folder, as a sink, whose count of failures is 0. Refuses a name with a
 /// slash: its file would be in another folder.
 fn create_in<R: Files + AllocGlobal>(
@@ -220,7 +210,9 @@ fn create_in<R: Files + AllocGlobal>(
 ) -> Result<FileSink<R::File>, FileError>
     ensures { IfOk result (λ sink. ⟦<FileSink<R::File> as Sink>⟧.failures sink ≡ 0) }
 {
-    let path = format!(in rt.alloc(); "{directory}/{name}")?;
+    let Ok(path) = path_in(rt.alloc(), directory, name) else {
+        return Err(FileError::Memory);
+    };
     if name.contains('/') {
         return Err(FileError::Open(path));
     }
@@ -253,44 +245,36 @@ pub fn find_folder<R: Files + AllocGlobal>(rt: &R, path: &str) -> Result<(), Fil
     }
 }
 
-/// Returns the metadata of the file at a path, or of standard input if the path is `-`. Links are followed.
-fn metadata_of<R: Files>(rt: &R, path: &str) -> io::Result<Metadata> {
-    if path == STANDARD_STREAM {
-        return fs::metadata(rt, STANDARD_INPUT_FILE);
-    }
-    fs::metadata(rt, path)
-}
-
 /// Returns whether the path of an output and another path lead to the same plain file: its device and its inode are
 /// equal. Returns `false` if a path leads to no file. As the other path, `-` means standard input.
-pub fn is_same_file<R: Files>(rt: &R, output: &str, other: &str) -> bool {
-    match (fs::metadata(rt, output), metadata_of(rt, other)) {
-        (Ok(one), Ok(two)) => one.is_file() && one.dev() == two.dev() && one.ino() == two.ino(),
-        _ => false,
+pub(crate) fn is_same_file<R: Files>(rt: &R, output: &str, other: &str) -> bool {
+    let other = match other {
+        STANDARD_STREAM => STANDARD_INPUT_FILE,
+        _ => other,
+    };
+    let found = fs::metadata(rt, output);
+    let Ok(other) = fs::metadata(rt, other) else {
+        return false;
+    };
+    match found {
+        Ok(output) => {
+            output.is_file() && output.dev() == other.dev() && output.ino() == other.ino()
+        }
+        Err(_) => false,
     }
-}
-
-/// Returns whether a path leads to the plain file with this name in a folder. Fails only if memory is refused.
-fn is_file_in<R: Files + AllocGlobal>(
-    rt: &R,
-    path: &str,
-    directory: &str,
-    name: &str,
-) -> Result<bool, AllocError> {
-    let other = format!(in rt.alloc(); "{directory}/{name}")?;
-    Ok(is_same_file(rt, path, other.as_str()))
 }
 
 /// Returns whether a path leads to one of the plain files with these names in a folder. Fails only if memory is
 /// refused.
-pub fn is_file_in_folder<R: Files + AllocGlobal>(
+pub(crate) fn is_file_in_folder<R: Files + AllocGlobal>(
     rt: &R,
     path: &str,
     directory: &str,
     names: &[String],
 ) -> Result<bool, AllocError> {
     for name in names {
-        if is_file_in(rt, path, directory, name.as_str())? {
+        let other = path_in(rt.alloc(), directory, name.as_str())?;
+        if is_same_file(rt, path, other.as_str()) {
             return Ok(true);
         }
     }

@@ -20,22 +20,17 @@ impl<F: OpenFile> LateFile<F> {
             has_old_bytes: true,
         }
     }
-
-    /// Truncates a plain file. Doesn't change a device or a pipe. After an error, the next write tries again.
-    fn drop_old_bytes(&mut self) -> io::Result<()> {
-        if self.file.metadata()?.is_file() {
-            self.file.set_len(0)?;
-        }
-        self.has_old_bytes = false;
-        Ok(())
-    }
 }
 
-/// The first write drops the old bytes. If they can't be dropped, it writes nothing, and fails.
+/// The first write truncates a plain file. It doesn't change a device or a pipe. If the file can't be truncated, it
+/// writes nothing, and fails; then the next write tries again.
 impl<F: Write + OpenFile> Write for LateFile<F> {
     fn write(&mut self, buf: &[u8]) -> io::Result<usize> {
         if self.has_old_bytes {
-            self.drop_old_bytes()?;
+            if self.file.metadata()?.is_file() {
+                self.file.set_len(0)?;
+            }
+            self.has_old_bytes = false;
         }
         self.file.write(buf)
     }

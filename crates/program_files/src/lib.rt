@@ -6,6 +6,7 @@ mod file_error;
 mod files;
 mod late_file;
 mod progress;
+mod run_files;
 mod schedule_adapters;
 mod schedule_files;
 mod schedule_words;
@@ -15,11 +16,12 @@ mod whole_file;
 
 pub use file_error::FileError;
 pub use files::{
-    FileSink, STANDARD_STREAM, create, create_all, create_file, find_folder, is_file_in_folder,
-    is_same_file, read_bytes, read_file_bytes, read_file_trace, read_front, read_trace,
+    FileSink, STANDARD_STREAM, create, create_all, create_file, find_folder, read_bytes,
+    read_file_bytes, read_file_trace, read_front, read_trace, read_traces,
 };
 pub use late_file::LateFile;
 pub use progress::{Watched, report_play};
+pub use run_files::{RunFiles, create_unused};
 pub use schedule_adapters::is_for;
 pub use schedule_files::{open_record, read_player, store};
 pub use schedule_words::adapter_options;

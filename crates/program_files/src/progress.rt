@@ -60,7 +60,8 @@ impl<'a, R: Watched, F> ReportingReader<'a, R, F> {
         let before = self.done / step;
         self.done = self.done.saturating_add(bytes);
         if self.is_reported && before < self.done / step {
-            let (done, all) = (self.done / MEBIBYTE, self.length / MEBIBYTE);
+            let done = self.done / MEBIBYTE;
+            let all = self.length / MEBIBYTE;
             // A report that can't be written changes nothing.
             let _ = eprintln!(self.rt; "nicbench: read {done} of {all} MiB");
         }
@@ -70,9 +71,11 @@ impl<'a, R: Watched, F> ReportingReader<'a, R, F> {
 /// A read reads from the file, and counts the bytes that were read.
 impl<R: Watched, F: Read> Read for ReportingReader<'_, R, F> {
     fn read(&mut self, buf: &mut [u8]) -> io::Result<usize> {
-        let count = self.file.read(buf)?;
-        self.count(count as u64);
-        Ok(count)
+        let read = self.file.read(buf);
+        if let Ok(count) = read {
+            self.count(count as u64);
+        }
+        read
     }
 }
 

@@ -34,9 +34,7 @@ fn has_adapter_of(asked: &Job<'_>, job: &ServeJob<'_>) -> bool
 fn serve_words<'a>(alloc: Global, options: &'a [String]) -> Result<Vec<&'a str>, AllocError>
     ensures { IfOk result (λ words. texts words.items ≡ spec.serve_words (map string_bytes options.entry.now)) }
 {
-    let mut words = Vec::new(alloc);
-    words.push("nicbench")?;
-    words.push("serve")?;
+    let mut words = vec![in alloc; "nicbench", "serve"]?;
     for option in options {
         words.push(option.as_str())?;
     }

@@ -15,33 +15,20 @@ use step_schedules::{Player, Schedule};
 /// The first line of a recorded schedule.
 const COMMENT: &[u8] = b"# recorded by nicbench serve\n";
 
-/// Returns whether a schedule is for the adapter of this job. A schedule without options is for every adapter.
-fn is_for_job(alloc: Global, schedule: &Schedule, job: &ServeJob<'_>) -> Result<bool, AllocError> {
-    match &schedule.options {
-        Some(options) => is_for(alloc, options.as_slice(), job),
-        None => Ok(true),
-    }
-}
-
 /// Returns the player of the schedule with this text. Fails with `Schedule` if the text isn't a schedule, and with
-/// `OtherOptions` if the schedule is for another adapter than this job's.
+/// `OtherOptions` if the schedule is for another adapter than this job's. A schedule without options is for every
+/// adapter.
 fn player_in(alloc: Global, text: &[u8], job: &ServeJob<'_>) -> Result<Player, FileError> {
     let schedule = Schedule::parse(alloc, text)?;
-    if is_for_job(alloc, &schedule, job)? {
-        Ok(Player::playing(alloc, schedule)?)
-    } else {
-        Err(FileError::OtherOptions)
+    let is_for_job = match &schedule.options {
+        Some(options) => is_for(alloc, options.as_slice(), job),
+        None => Ok(true),
+    };
+    match is_for_job {
+        Ok(true) => Player::playing(alloc, schedule).map_err(FileError::from),
+        Ok(false) => Err(FileError::OtherOptions),
+        Err(AllocError) => Err(FileError::Memory),
     }
-}
-
-/// Returns the player of the schedule at a path, as [`player_in`] does. The path `-` is refused.
-fn playing<R: Files + Input + AllocGlobal>(
-    rt: &R,
-    path: &str,
-    job: &ServeJob<'_>,
-) -> Result<Player, FileError> {
-    let bytes = read_file_bytes(rt, path)?;
-    player_in(rt.alloc(), bytes.as_slice(), job)
 }
 
 /// Returns a player that only records, if the job asks for a record.
@@ -53,15 +40,17 @@ fn recording(alloc: Global, job: &ServeJob<'_>) -> Option<Player> {
 }
 
 /// Returns the player of a server, if the job asks for a schedule or a record. A player of a schedule also records.
-/// Fails with `OtherOptions` if the schedule is for another adapter than this job's.
+/// Fails with `OtherOptions` if the schedule is for another adapter than this job's. The path `-` is refused.
 pub fn read_player<R: Files + Input + AllocGlobal>(
     rt: &R,
     job: &ServeJob<'_>,
 ) -> Result<Option<Player>, FileError> {
-    match job.schedule {
-        Some(path) => Ok(Some(playing(rt, path, job)?)),
-        None => Ok(recording(rt.alloc(), job)),
-    }
+    let alloc = rt.alloc();
+    let Some(path) = job.schedule else {
+        return Ok(recording(alloc, job));
+    };
+    let bytes = read_file_bytes(rt, path)?;
+    player_in(alloc, bytes.as_slice(), job).map(Some)
 }
 
 /// Opens the file for the recorded schedule, if the job asks for a record. An existing file keeps its bytes until the
@@ -70,10 +59,10 @@ pub fn open_record<R: Files + AllocGlobal>(
     rt: &R,
     job: &ServeJob<'_>,
 ) -> Result<Option<LateFile<R::File>>, FileError> {
-    Ok(match job.record {
-        Some(path) => Some(create_file(rt, path)?),
-        None => None,
-    })
+    match job.record {
+        Some(path) => create_file(rt, path).map(Some),
+        None => Ok(None),
+    }
 }
 
 /// Returns a schedule of the steps that were played. `words` are the words of the command line of `serve`. If options

@@ -9,7 +9,7 @@ use std::alloc::{AllocError, Global};
 fn is_run_option(word: &str) -> bool
     ensures { result ≡ spec.is_run_option word.now }
 {
-    word == "--schedule" || word == "--record" || word == "--seed"
+    matches!(word, "--schedule" | "--record" | "--seed")
 }
 
 /// Returns whether a word contains both an option and its value, joined by `=`, and the option is one of `serve` that
@@ -33,11 +33,13 @@ fn options_in(alloc: Global, words: &[String]) -> Result<Vec<String>, AllocError
     let mut is_value = false;
     for word in words {
         let word = word.as_str();
-        let is_name = is_run_option(word);
-        if !is_value && !is_name && !has_run_option(word) {
+        if is_value {
+            is_value = false;
+        } else if is_run_option(word) {
+            is_value = true;
+        } else if !has_run_option(word) {
             options.push(String::from_str(alloc, word)?)?;
         }
-        is_value = !is_value && is_name;
     }
     Ok(options)
 }

@@ -3,7 +3,7 @@
 use std::io::{self, ErrorKind, Write};
 
 /// Standard error as a writer of text. A write of bytes that aren't UTF-8 fails.
-#[derive(Clone, Copy)]
+#[derive(Drop)]
 pub struct StandardError<'a, R> {
     rt: &'a R,
 }

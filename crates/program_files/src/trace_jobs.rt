@@ -1,14 +1,12 @@
 //! The jobs of `pass` and `show`, from their inputs to their outputs.
-ghost use Rattle.std.specs.Prelude.{◌<◌};
 ghost use Rattle.pcap_bench.specs.Options.{HasVlanNumber};
 
 use crate::file_error::FileError;
 use crate::files::{STANDARD_STREAM, read_trace};
 use crate::standard_error::StandardError;
-use crate::whole_file::{WholeFile, create_whole};
+use crate::whole_file::create_whole;
 use command_line::{PassJob, ShowJob};
-use pcap_bench::{PassCounts, Sink, Trace, Unit, WriterSink, pass, print_pass, show};
-use std::fs::File;
+use pcap_bench::{Trace, Unit, WriterSink, pass, print_pass, show};
 use std::io;
 
 /// Returns the unit of the times in written traces: nanoseconds if `nanos` is true (`--nanos`), and otherwise
@@ -17,51 +15,23 @@ pub fn unit_of(nanos: bool) -> Unit {
     if nanos { Unit::Nanos } else { Unit::Micros }
 }
 
-/// Writes to a sink the frames of a trace that pass the job's filter. Returns the counts. The filter's VLAN must be at
-/// most 4,095, and the sink must have failed fewer than 2^64 - 1 times.
-fn pass_trace<S: Sink>(
-    rt: &HostRuntime,
-    job: &PassJob<'_>,
-    trace: &Trace,
-    sink: &mut S,
-) -> Result<PassCounts, FileError>
-    requires number { HasVlanNumber job.now.filter }
-    requires countable { S.failures sink.old < u64.MAX }
-{
-    let unit = unit_of(job.nanos);
-    match pass(rt.alloc(), trace, &job.filter, unit, sink) {
-        Ok(counts) => Ok(counts),
-        Err(error) => Err(FileError::from(error)),
-    }
-}
-
-/// Finishes the output file, to which all frames that pass were written, and writes the line of counts to standard
-/// output. `path` is the path of the output, OUT.
-fn finish_pass(
-    rt: &HostRuntime,
-    path: &str,
-    trace: &Trace,
-    counts: &PassCounts,
-    file: WholeFile<File>,
-) -> Result<(), FileError> {
-    file.finish(rt, path)?;
-    print_pass(trace, counts, &mut WriterSink::new(io::writer(rt)))?;
-    Ok(())
-}
-
-/// Writes to a file the frames of a trace that pass, and to standard output the line of counts. If not all of these
-/// frames were written, abandons the file. The VLAN of the job's filter must be at most 4,095.
+/// Writes to a file the frames of a trace that pass, finishes the file, and writes to standard output the line of
+/// counts. If not all of these frames were written, abandons the file. The VLAN of the job's filter must be at most
+/// 4,095.
 fn pass_to_file(rt: &HostRuntime, job: &PassJob<'_>, trace: &Trace) -> Result<(), FileError>
     requires { HasVlanNumber job.now.filter }
 {
     let mut file = create_whole(rt, job.output)?;
-    match pass_trace(rt, job, trace, &mut file.sink) {
-        Ok(counts) => finish_pass(rt, job.output, trace, &counts, file),
+    let unit = unit_of(job.nanos);
+    let counts = match pass(rt.alloc(), trace, &job.filter, unit, &mut file.sink) {
+        Ok(counts) => counts,
         Err(error) => {
             file.abandon(rt);
-            Err(error)
+            return Err(FileError::from(error));
         }
-    }
+    };
+    file.finish(rt, job.output)?;
+    print_pass(trace, &counts, &mut WriterSink::new(io::writer(rt))).map_err(FileError::from)
 }
 
 /// Writes to standard output the frames of a trace that pass, and to standard error the line of counts. A failed write
@@ -73,7 +43,9 @@ fn pass_to_standard_output(
 ) -> Result<(), FileError>
     requires { HasVlanNumber job.now.filter }
 {
-    let counts = pass_trace(rt, job, trace, &mut WriterSink::new(io::writer(rt)))?;
+    let unit = unit_of(job.nanos);
+    let mut sink = WriterSink::new(io::writer(rt));
+    let counts = pass(rt.alloc(), trace, &job.filter, unit, &mut sink)?;
     let _ = print_pass(trace, &counts, &mut WriterSink::new(StandardError::new(rt)));
     Ok(())
 }
@@ -90,10 +62,10 @@ pub fn run_pass(rt: &HostRuntime, job: &PassJob<'_>) -> Result<(), FileError>
     requires { HasVlanNumber job.now.filter }
 {
     let trace = read_trace(rt, job.input)?;
-    if job.output == STANDARD_STREAM {
-        return pass_to_standard_output(rt, job, &trace);
+    match job.output {
+        STANDARD_STREAM => pass_to_standard_output(rt, job, &trace),
+        _ => pass_to_file(rt, job, &trace),
     }
-    pass_to_file(rt, job, &trace)
 }
 
 /// Does the job of `show`: writes to standard output a line for each frame of the trace, and a last line with counts.
@@ -103,6 +75,5 @@ pub fn run_pass(rt: &HostRuntime, job: &PassJob<'_>) -> Result<(), FileError>
 /// The trace can't be read, or standard output can't be written.
 pub fn run_show(rt: &HostRuntime, job: &ShowJob<'_>) -> Result<(), FileError> {
     let trace = read_trace(rt, job.trace)?;
-    show(&trace, &mut WriterSink::new(io::writer(rt)))?;
-    Ok(())
+    show(&trace, &mut WriterSink::new(io::writer(rt))).map_err(FileError::from)
 }

@@ -2,9 +2,10 @@
 ghost use Rattle.std.specs.Prelude.{◌≡◌, IfOk};
 
 use crate::file_error::FileError;
-use crate::files::{FileSink, create};
+use crate::files::{FileSink, create_file};
 use crate::late_file::LateFile;
 use pcap_trace::{Sink, WriteError, WriterSink};
+use std::alloc::AllocError;
 use std::fs::{self, Metadata, OpenFile, OpenOptions};
 use std::io::ErrorKind;
 use std::os::unix::fs::MetadataExt;
@@ -26,49 +27,45 @@ pub struct WholeFile<F> {
     part: Option<String>,
 }
 
-/// The result of making a new file.
+/// The result of making a part.
 #[derive(Drop)]
-enum NewFile<F> {
-    /// The file was made.
-    Made(F),
-    /// A file with this name already exists.
+enum NewPart<F> {
+    /// The part was made: the file, and its path.
+    Made(F, String),
+    /// There is no part, because a file with its name already exists.
     Taken,
-    /// No file with this name can be made.
+    /// There is no part, because it can't be made, or because the output isn't replaced.
     Refused,
 }
 
-/// Makes a new file at the path `name`. Doesn't open a file that exists.
-fn new_file<R: Files>(rt: &R, name: &str) -> NewFile<R::File> {
+/// Makes a part, which is a new file at the path `name`. Doesn't open a file that exists.
+fn part_at<R: Files>(rt: &R, name: String) -> NewPart<R::File> {
     match OpenOptions::new()
         .write(true)
         .create_new(true)
-        .open(rt, name)
+        .open(rt, name.as_str())
     {
-        Ok(file) => NewFile::Made(file),
-        Err(error) if error.kind() == ErrorKind::AlreadyExists => NewFile::Taken,
-        Err(_) => NewFile::Refused,
+        Ok(file) => NewPart::Made(file, name),
+        Err(error) if error.kind() == ErrorKind::AlreadyExists => NewPart::Taken,
+        Err(_) => NewPart::Refused,
     }
 }
 
-/// Makes a part for the output at `path`, and returns the part with its path: `PATH.part0`, or the next number up to 99
-/// whose file doesn't exist. Returns `None` if no part can be made. Fails only if memory is refused.
-fn new_part<R: Files + AllocGlobal>(
-    rt: &R,
-    path: &str,
-) -> Result<Option<(R::File, String)>, FileError> {
+/// Makes a part for the output at `path`: `PATH.part0`, or the next number up to 99 whose file doesn't exist. The
+/// result is `Taken` if all of these files exist. Fails only if memory is refused.
+fn new_part<R: Files + AllocGlobal>(rt: &R, path: &str) -> Result<NewPart<R::File>, AllocError> {
     // No file can have such a path, so there is nothing to replace.
     if path.is_empty() || path.ends_with('/') {
-        return Ok(None);
+        return Ok(NewPart::Refused);
     }
     for number in 0..MOST_PARTS {
         let name = format!(in rt.alloc(); "{path}.part{number}")?;
-        match new_file(rt, name.as_str()) {
-            NewFile::Made(file) => return Ok(Some((file, name))),
-            NewFile::Taken => {}
-            NewFile::Refused => return Ok(None),
+        match part_at(rt, name) {
+            NewPart::Taken => {}
+            part => return Ok(part),
         }
     }
-    Ok(None)
+    Ok(NewPart::Taken)
 }
 
 /// Sets the permissions of a part to those of the file that it replaces, if both have the same owner and group. Returns
@@ -81,41 +78,33 @@ fn take_permissions<F: OpenFile>(part: &F, old: &Metadata) -> bool {
     is_same && part.set_permissions(old.permissions()).is_ok()
 }
 
-/// Makes a part with the owner, the group and the permissions of the file that it replaces. Returns `None` if no such
-/// part can be made. Fails only if memory is refused.
+/// Makes a part with the owner, the group and the permissions of the file that it replaces. The result is `Refused` if
+/// these can't be set; then the part is removed. Fails only if memory is refused.
 fn part_like<R: Files + AllocGlobal>(
     rt: &R,
     path: &str,
     old: &Metadata,
-) -> Result<Option<(R::File, String)>, FileError> {
-    let Some((file, name)) = new_part(rt, path)? else {
-        return Ok(None);
-    };
-    if take_permissions(&file, old) {
-        return Ok(Some((file, name)));
+) -> Result<NewPart<R::File>, AllocError> {
+    match new_part(rt, path) {
+        Ok(NewPart::Made(file, name)) if !take_permissions(&file, old) => {
+            // An empty part that can't be removed remains.
+            let _ = fs::remove_file(rt, name.as_str());
+            Ok(NewPart::Refused)
+        }
+        part => part,
     }
-    // An empty part that can't be removed remains.
-    let _ = fs::remove_file(rt, name.as_str());
-    Ok(None)
 }
 
 impl<F: OpenFile + std::io::Write + Drop> WholeFile<F> {
-    /// Returns an output that is written into a part: `file`, at the path `name`. The sink's count of failures is 0.
-    fn in_part(file: F, name: String) -> WholeFile<F>
+    /// Returns an output that is written into `file`: a part, whose path is `part`, or the output itself, in place. The
+    /// sink's count of failures is 0.
+    fn new(file: LateFile<F>, part: Option<String>) -> WholeFile<F>
         ensures { ⟦<FileSink<F> as Sink>⟧.failures result.sink ≡ 0 }
     {
         WholeFile {
-            sink: WriterSink::new(LateFile::new(file)),
-            part: Some(name),
+            sink: WriterSink::new(file),
+            part,
         }
-    }
-
-    /// Returns an output that is written in place. The sink's count of failures must be 0.
-    fn in_place(sink: FileSink<F>) -> WholeFile<F>
-        requires { ⟦<FileSink<F> as Sink>⟧.failures sink ≡ 0 }
-        ensures { ⟦<FileSink<F> as Sink>⟧.failures result.sink ≡ 0 }
-    {
-        WholeFile { sink, part: None }
     }
 
     /// Renames the part, if there is one, to the output. Must be called after all bytes were written, with the path
@@ -162,46 +151,32 @@ fn open_replaceable<R: Files + AllocGlobal>(
     let Ok(file) = OpenOptions::new().write(true).open(rt, path) else {
         return Err(FileError::open(rt.alloc(), path));
     };
-    match part_like(rt, path, old)? {
-        Some((part, name)) => Ok(WholeFile::in_part(part, name)),
-        None => Ok(WholeFile::in_place(WriterSink::new(LateFile::new(file)))),
-    }
-}
-
-/// Opens or creates an output that is written in place. The sink's count of failures is 0.
-fn create_in_place<R: Files + AllocGlobal>(
-    rt: &R,
-    path: &str,
-) -> Result<WholeFile<R::File>, FileError>
-    ensures { IfOk result (λ file. ⟦<FileSink<R::File> as Sink>⟧.failures file.sink ≡ 0) }
-{
-    Ok(WholeFile::in_place(create(rt, path)?))
-}
-
-/// Creates an output that doesn't exist. Its bytes are written into a part, or in place if no part can be made. The
-/// sink's count of failures is 0.
-fn create_new<R: Files + AllocGlobal>(rt: &R, path: &str) -> Result<WholeFile<R::File>, FileError>
-    ensures { IfOk result (λ file. ⟦<FileSink<R::File> as Sink>⟧.failures file.sink ≡ 0) }
-{
-    match new_part(rt, path)? {
-        Some((part, name)) => Ok(WholeFile::in_part(part, name)),
-        None => create_in_place(rt, path),
+    match part_like(rt, path, old) {
+        Ok(NewPart::Made(part, name)) => Ok(WholeFile::new(LateFile::new(part), Some(name))),
+        Ok(NewPart::Taken | NewPart::Refused) => Ok(WholeFile::new(LateFile::new(file), None)),
+        Err(AllocError) => Err(FileError::Memory),
     }
 }
 
 /// Opens an output. A plain file with one hard link keeps its bytes until [`finish`](WholeFile::finish), and a new file
-/// gets its name then. Any other output is written in place, as by [`create`]: a symbolic link, a file with several
-/// hard links, a device or a pipe. A file for which no part with its owner, group and permissions can be made is
-/// written in place, too. The sink's count of failures is 0.
+/// gets its name then. Any other output is written in place, as by [`create_file`]: a symbolic link, a file with
+/// several hard links, a device or a pipe. A file for which no part with its owner, group and permissions can be made
+/// is written in place, too. The sink's count of failures is 0.
 pub fn create_whole<R: Files + AllocGlobal>(
     rt: &R,
     path: &str,
 ) -> Result<WholeFile<R::File>, FileError>
     ensures { IfOk result (λ file. ⟦<FileSink<R::File> as Sink>⟧.failures file.sink ≡ 0) }
 {
-    match fs::symlink_metadata(rt, path) {
-        Ok(old) if old.is_file() && old.nlink() == 1 => open_replaceable(rt, path, &old),
-        Err(error) if error.kind() == ErrorKind::NotFound => create_new(rt, path),
-        _ => create_in_place(rt, path),
+    let part = match fs::symlink_metadata(rt, path) {
+        Ok(old) if old.is_file() && old.nlink() == 1 => return open_replaceable(rt, path, &old),
+        Err(error) if error.kind() == ErrorKind::NotFound => new_part(rt, path),
+        // Any other output isn't replaced.
+        _ => Ok(NewPart::Refused),
+    };
+    match part {
+        Ok(NewPart::Made(part, name)) => Ok(WholeFile::new(LateFile::new(part), Some(name))),
+        Ok(NewPart::Taken | NewPart::Refused) => Ok(WholeFile::new(create_file(rt, path)?, None)),
+        Err(AllocError) => Err(FileError::Memory),
     }
 }
