@@ -1,4 +1,5 @@
-//! Tests of the adapter, of a bus, and of a driver over a bus.
+//! Tests of the adapter, of a bus, of a driver over a bus, and of hosts on wires, through the public calls of their
+//! crates.
 #![tactic(auto)]
 
 #[cfg(test)]
@@ -12,13 +13,21 @@ mod descriptors_readme;
 #[cfg(test)]
 mod dma_memory_readme;
 #[cfg(test)]
+mod drains;
+#[cfg(test)]
+mod driver_readme;
+#[cfg(test)]
+mod frame_sink;
+#[cfg(test)]
+mod logs;
+#[cfg(test)]
 mod memory;
+#[cfg(test)]
+mod network_memory;
 #[cfg(test)]
 mod no_memory;
 #[cfg(test)]
 mod packet_socket_readme;
-#[cfg(test)]
-mod readme;
 #[cfg(test)]
 mod refused_memory;
 #[cfg(test)]
@@ -28,4 +37,8 @@ mod rx_engine_readme;
 #[cfg(test)]
 mod solo_bus_readme;
 #[cfg(test)]
+mod texts;
+#[cfg(test)]
 mod tx_engine_readme;
+#[cfg(test)]
+mod wire_readme;
