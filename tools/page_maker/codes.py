@@ -5,7 +5,7 @@ import re
 import textwrap
 from typing import NamedTuple
 
-CODES = os.path.join("crates", "nicbench", "src", "codes.rt")
+CODES = os.path.join("crates", "program_jobs", "src", "codes.rt")
 # A variant, with its meaning as a comment.
 VARIANT = re.compile(r"^((?:    /// .*\n)*)    (E\d+),$", re.M)
 # The arms of a label, of statuses, and of a meaning that the program prints.

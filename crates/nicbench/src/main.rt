@@ -3,21 +3,8 @@
 
 ghost use Rattle.command_line.specs.Jobs.{HasBounds};
 
-mod codes;
-mod drive_job;
-mod events_file;
-mod fault;
-mod output_names;
-mod run;
-mod serve;
-
-use crate::codes::Code;
-use crate::drive_job::run_drive;
-use crate::fault::Fault;
-use crate::run::run_scenario;
-use crate::serve::run_serve;
 use command_line::{Job, LineError, line};
-use program_files::{FileError, run_pass, run_show};
+use program_jobs::{Code, Fault, run_drive, run_pass, run_scenario, run_serve, run_show};
 use std::env;
 use std::io::ErrorKind;
 use std::process::ExitCode;
@@ -64,11 +51,6 @@ fn report(rt: &HostRuntime, job: &Job<'_>, fault: &Fault) -> ExitCode {
     ExitCode::from(fault.code.status())
 }
 
-/// Returns the outcome of a job of `program_files`, with its error converted to a fault.
-fn with_fault(outcome: Result<(), FileError>) -> Result<(), Fault> {
-    Ok(outcome?)
-}
-
 /// Does this job, and reports its fault, if any. Returns the exit status. `words` are the words of the command line
 /// that asks for the job. In a recorded schedule, `serve` stores the options of its adapter that are among them. The
 /// values of the job must be within their bounds, as [`line`] ensures.
@@ -76,9 +58,9 @@ fn obey(rt: &HostRuntime, words: &[String], job: &Job<'_>) -> ExitCode
     requires { HasBounds job.now }
 {
     let outcome = match job {
-        Job::Pass(job) => with_fault(run_pass(rt, job)),
+        Job::Pass(job) => run_pass(rt, job),
         Job::Run(job) => run_scenario(rt, job),
-        Job::Show(job) => with_fault(run_show(rt, job)),
+        Job::Show(job) => run_show(rt, job),
         Job::Serve(job) => run_serve(rt, words, job),
         Job::Drive(job) => run_drive(rt, job),
     };

@@ -1,3 +1,2 @@
 pub mod Adapters
-pub mod Errors
 pub mod Words

@@ -1,11 +1,8 @@
 //! Why an input or an output can't be used.
 ghost use Rattle.std.specs.Prelude.{◌≡◌};
-ghost use Rattle.pcap_bench.specs.declared.pass_error.PassError.TheVariants as passing;
-ghost use Rattle.program_files.specs.Errors.{IsUsed};
 ghost use Rattle.program_files.specs.declared.file_error.FileError.TheVariants as errors;
 
-use pcap_bench::PassError;
-use pcap_trace::{ReadError, WriteError};
+use pcap_trace::ReadError;
 use std::alloc::{AllocError, AllocFailed, Global};
 use step_schedules::ScheduleError;
 
@@ -15,8 +12,6 @@ pub enum FileError {
     /// The file at this path can't be opened or created, or the program doesn't accept it, such as a device as an
     /// input.
     Open(String),
-    /// The file at this path is an output of a run, and is also another file of the run.
-    Used(String),
     /// The input at this path isn't a trace, or can't be read.
     Input(ReadError, String),
     /// Memory was refused while a trace was read.
@@ -43,17 +38,6 @@ impl FileError {
         }
     }
 
-    /// Returns the error for a path whose file is also another file of a run. The error is `Memory` if there is no
-    /// memory for the path.
-    pub(crate) fn used(alloc: Global, path: &str) -> FileError
-        ensures { IsUsed path.now result }
-    {
-        match String::from_str(alloc, path) {
-            Ok(path) => FileError::Used(path),
-            Err(_) => FileError::Memory,
-        }
-    }
-
     /// Returns the error for a path whose input isn't a trace, or can't be read. The error is `TraceMemory` if memory
     /// was refused while the trace was read, and `Memory` if there is no memory for the path.
     pub(crate) fn input(alloc: Global, error: ReadError, path: &str) -> FileError {
@@ -72,26 +56,6 @@ impl From<ScheduleError> for FileError {
 
     fn from(error: ScheduleError) -> FileError {
         FileError::Schedule(error)
-    }
-}
-
-impl From<WriteError> for FileError {
-    ghost from_gives = { λ _ e. e ≡ errors.Write };
-
-    fn from(_error: WriteError) -> FileError {
-        FileError::Write
-    }
-}
-
-impl From<PassError> for FileError {
-    ghost from_gives = { λ error e.
-        (error ≡ passing.Memory → e ≡ errors.Memory) × (error ≡ passing.Write → e ≡ errors.Write) };
-
-    fn from(error: PassError) -> FileError {
-        match error {
-            PassError::Memory => FileError::Memory,
-            PassError::Write => FileError::Write,
-        }
     }
 }
 

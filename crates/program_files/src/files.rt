@@ -8,14 +8,11 @@ use pcap_trace::{ReadError, ReaderSource, Sink, SliceSource, Trace, WriterSink};
 use std::alloc::{AllocError, Global};
 use std::fs::{self, OpenFile, OpenOptions};
 use std::io::{ErrorKind, Input, Read};
-use std::os::unix::fs::{FileTypeExt, MetadataExt};
+use std::os::unix::fs::FileTypeExt;
 use std::rt::Files;
 
 /// The path that means standard input, as an input, and standard output, as an output.
 pub const STANDARD_STREAM: &str = "-";
-
-/// The path whose metadata are those of standard input.
-const STANDARD_INPUT_FILE: &str = "/dev/stdin";
 
 /// The maximum number of bytes of standard input or a pipe: 1 GiB.
 const MOST_PIPED: u64 = 1 << 30;
@@ -127,31 +124,27 @@ pub fn read_traces<R: Files + Input + Watched + AllocGlobal>(
     Ok(traces)
 }
 
-/// Reads all bytes of the input at a path, or of standard input if the path is `-`. Bytes that are appended after a
-/// file was opened aren't read. Fails with [`Pipe`](FileError::Pipe) if standard input or a pipe is too long.
-pub fn read_bytes<R: Files + Input + AllocGlobal>(
-    rt: &R,
-    path: &str,
-) -> Result<Vec<u8>, FileError> {
-    match open(rt, path) {
-        Ok(Opened::File(file, length)) => read_up_to(rt.alloc(), path, file, length),
-        Ok(Opened::Piped(bytes)) => Ok(bytes),
-        Err(error) => Err(error),
-    }
-}
-
-/// Reads the first `limit` bytes of the file at a path, or all bytes of a shorter file. `limit` doesn't apply to
-/// standard input (`-`) and pipes, which are read as by [`read_bytes`].
+/// Reads the first `limit` bytes of the file at a path, or all bytes of a shorter file. Bytes that are appended after
+/// the file was opened aren't read. `limit` doesn't apply to standard input, if the path is `-`, and to pipes: they are
+/// read to their end. Fails with [`Pipe`](FileError::Pipe) if standard input or a pipe is too long.
 pub fn read_front<R: Files + Input + AllocGlobal>(
     rt: &R,
     path: &str,
     limit: u64,
 ) -> Result<Vec<u8>, FileError> {
     match open(rt, path) {
-        Ok(Opened::File(file, _)) => read_up_to(rt.alloc(), path, file, limit),
+        Ok(Opened::File(file, length)) => read_up_to(rt.alloc(), path, file, length.min(limit)),
         Ok(Opened::Piped(bytes)) => Ok(bytes),
         Err(error) => Err(error),
     }
+}
+
+/// Reads all bytes of the input at a path, or of standard input if the path is `-`, as by [`read_front`].
+pub fn read_bytes<R: Files + Input + AllocGlobal>(
+    rt: &R,
+    path: &str,
+) -> Result<Vec<u8>, FileError> {
+    read_front(rt, path, u64::MAX)
 }
 
 /// Reads a trace from a file or a pipe with a path. The path `-` is refused.
@@ -197,7 +190,7 @@ pub fn create<R: Files + AllocGlobal>(rt: &R, path: &str) -> Result<FileSink<R::
 }
 
 /// Returns the path of the file with this name in a folder. Fails only if memory is refused.
-fn path_in(alloc: Global, directory: &str, name: &str) -> Result<String, AllocError> {
+pub fn path_in(alloc: Global, directory: &str, name: &str) -> Result<String, AllocError> {
     format!(in alloc; "{directory}/{name}")
 }
 
@@ -243,40 +236,4 @@ pub fn find_folder<R: Files + AllocGlobal>(rt: &R, path: &str) -> Result<(), Fil
         Ok(metadata) if metadata.is_dir() => Ok(()),
         _ => Err(FileError::open(rt.alloc(), path)),
     }
-}
-
-/// Returns whether the path of an output and another path lead to the same plain file: its device and its inode are
-/// equal. Returns `false` if a path leads to no file. As the other path, `-` means standard input.
-pub(crate) fn is_same_file<R: Files>(rt: &R, output: &str, other: &str) -> bool {
-    let other = match other {
-        STANDARD_STREAM => STANDARD_INPUT_FILE,
-        _ => other,
-    };
-    let found = fs::metadata(rt, output);
-    let Ok(other) = fs::metadata(rt, other) else {
-        return false;
-    };
-    match found {
-        Ok(output) => {
-            output.is_file() && output.dev() == other.dev() && output.ino() == other.ino()
-        }
-        Err(_) => false,
-    }
-}
-
-/// Returns whether a path leads to one of the plain files with these names in a folder. Fails only if memory is
-/// refused.
-pub(crate) fn is_file_in_folder<R: Files + AllocGlobal>(
-    rt: &R,
-    path: &str,
-    directory: &str,
-    names: &[String],
-) -> Result<bool, AllocError> {
-    for name in names {
-        let other = path_in(rt.alloc(), directory, name.as_str())?;
-        if is_same_file(rt, path, other.as_str()) {
-            return Ok(true);
-        }
-    }
-    Ok(false)
 }

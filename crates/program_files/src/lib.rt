@@ -1,30 +1,26 @@
 //! The inputs and outputs of the program: files, pipes and standard streams, among them the files of schedules. The
-//! crate does the jobs of `pass` and `show`, and reports the progress of long jobs on standard error.
+//! crate reports the progress of long jobs on standard error.
 #![tactic(auto)]
 
 mod file_error;
 mod files;
 mod late_file;
 mod progress;
-mod run_files;
 mod schedule_adapters;
 mod schedule_files;
 mod schedule_words;
 mod standard_error;
-mod trace_jobs;
 mod whole_file;
 
 pub use file_error::FileError;
 pub use files::{
-    FileSink, STANDARD_STREAM, create, create_all, create_file, find_folder, read_bytes,
+    FileSink, STANDARD_STREAM, create, create_all, create_file, find_folder, path_in, read_bytes,
     read_file_bytes, read_file_trace, read_front, read_trace, read_traces,
 };
 pub use late_file::LateFile;
 pub use progress::{Watched, report_play};
-pub use run_files::{RunFiles, create_unused};
 pub use schedule_adapters::is_for;
 pub use schedule_files::{open_record, read_player, store};
 pub use schedule_words::adapter_options;
 pub use standard_error::StandardError;
-pub use trace_jobs::{run_pass, run_show, unit_of};
 pub use whole_file::{WholeFile, create_whole};

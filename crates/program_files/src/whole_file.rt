@@ -27,45 +27,56 @@ pub struct WholeFile<F> {
     part: Option<String>,
 }
 
-/// The result of making a part.
+/// A part: a new file that replaces an output.
+#[derive(Drop)]
+struct Part<F> {
+    file: F,
+    path: String,
+}
+
+/// The result of making a part at one path.
 #[derive(Drop)]
 enum NewPart<F> {
-    /// The part was made: the file, and its path.
-    Made(F, String),
-    /// There is no part, because a file with its name already exists.
+    /// The part was made.
+    Made(Part<F>),
+    /// A file at this path already exists.
     Taken,
-    /// There is no part, because it can't be made, or because the output isn't replaced.
+    /// The part can't be made.
     Refused,
 }
 
-/// Makes a part, which is a new file at the path `name`. Doesn't open a file that exists.
-fn part_at<R: Files>(rt: &R, name: String) -> NewPart<R::File> {
+/// Makes a part at this path. Doesn't open a file that exists.
+fn part_at<R: Files>(rt: &R, path: String) -> NewPart<R::File> {
     match OpenOptions::new()
         .write(true)
         .create_new(true)
-        .open(rt, name.as_str())
+        .open(rt, path.as_str())
     {
-        Ok(file) => NewPart::Made(file, name),
+        Ok(file) => NewPart::Made(Part { file, path }),
         Err(error) if error.kind() == ErrorKind::AlreadyExists => NewPart::Taken,
         Err(_) => NewPart::Refused,
     }
 }
 
-/// Makes a part for the output at `path`: `PATH.part0`, or the next number up to 99 whose file doesn't exist. The
-/// result is `Taken` if all of these files exist. Fails only if memory is refused.
-fn new_part<R: Files + AllocGlobal>(rt: &R, path: &str) -> Result<NewPart<R::File>, AllocError> {
+/// Makes a part for the output at `path`: `PATH.part0`, or the next number up to 99 whose file doesn't exist. Returns
+/// `None` if no part can be made, or if all of these files exist. Fails only if memory is refused.
+fn new_part<R: Files + AllocGlobal>(
+    rt: &R,
+    path: &str,
+) -> Result<Option<Part<R::File>>, AllocError> {
     // No file can have such a path, so there is nothing to replace.
     if path.is_empty() || path.ends_with('/') {
-        return Ok(NewPart::Refused);
+        return Ok(None);
     }
     for number in 0..MOST_PARTS {
         let name = format!(in rt.alloc(); "{path}.part{number}")?;
         match part_at(rt, name) {
+            NewPart::Made(part) => return Ok(Some(part)),
             NewPart::Taken => {}
-            part => return Ok(part),
+            NewPart::Refused => return Ok(None),
         }
     }
-    Ok(NewPart::Taken)
+    Ok(None)
 }
 
 /// Sets the permissions of a part to those of the file that it replaces, if both have the same owner and group. Returns
@@ -78,21 +89,26 @@ fn take_permissions<F: OpenFile>(part: &F, old: &Metadata) -> bool {
     is_same && part.set_permissions(old.permissions()).is_ok()
 }
 
-/// Makes a part with the owner, the group and the permissions of the file that it replaces. The result is `Refused` if
-/// these can't be set; then the part is removed. Fails only if memory is refused.
+/// Makes a part with the owner, the group and the permissions of the file that it replaces. Returns `None` if no such
+/// part can be made. Fails if the file can't be opened for writing, or if memory is refused.
 fn part_like<R: Files + AllocGlobal>(
     rt: &R,
     path: &str,
     old: &Metadata,
-) -> Result<NewPart<R::File>, AllocError> {
-    match new_part(rt, path) {
-        Ok(NewPart::Made(file, name)) if !take_permissions(&file, old) => {
-            // An empty part that can't be removed remains.
-            let _ = fs::remove_file(rt, name.as_str());
-            Ok(NewPart::Refused)
-        }
-        part => part,
+) -> Result<Option<Part<R::File>>, FileError> {
+    // Even if a part replaces the file, the file must be writable.
+    if OpenOptions::new().write(true).open(rt, path).is_err() {
+        return Err(FileError::open(rt.alloc(), path));
     }
+    let Some(part) = new_part(rt, path)? else {
+        return Ok(None);
+    };
+    if take_permissions(&part.file, old) {
+        return Ok(Some(part));
+    }
+    // An empty part that can't be removed remains.
+    let _ = fs::remove_file(rt, part.path.as_str());
+    Ok(None)
 }
 
 impl<F: OpenFile + std::io::Write + Drop> WholeFile<F> {
@@ -138,23 +154,18 @@ impl<F: OpenFile + std::io::Write + Drop> WholeFile<F> {
     }
 }
 
-/// Opens a plain file with one hard link. Its new bytes are written into a part, or in place if no part can be made.
-/// The sink's count of failures is 0.
-fn open_replaceable<R: Files + AllocGlobal>(
+/// Makes a part for an output that is replaced: a plain file with one hard link, or a new file. Returns `None` for any
+/// other output, and if no part can be made.
+fn part_for<R: Files + AllocGlobal>(
     rt: &R,
     path: &str,
-    old: &Metadata,
-) -> Result<WholeFile<R::File>, FileError>
-    ensures { IfOk result (λ file. ⟦<FileSink<R::File> as Sink>⟧.failures file.sink ≡ 0) }
-{
-    // Even if a part replaces the file, the file must be writable.
-    let Ok(file) = OpenOptions::new().write(true).open(rt, path) else {
-        return Err(FileError::open(rt.alloc(), path));
-    };
-    match part_like(rt, path, old) {
-        Ok(NewPart::Made(part, name)) => Ok(WholeFile::new(LateFile::new(part), Some(name))),
-        Ok(NewPart::Taken | NewPart::Refused) => Ok(WholeFile::new(LateFile::new(file), None)),
-        Err(AllocError) => Err(FileError::Memory),
+) -> Result<Option<Part<R::File>>, FileError> {
+    match fs::symlink_metadata(rt, path) {
+        Ok(old) if old.is_file() && old.nlink() == 1 => part_like(rt, path, &old),
+        Err(error) if error.kind() == ErrorKind::NotFound => {
+            new_part(rt, path).map_err(FileError::from)
+        }
+        _ => Ok(None),
     }
 }
 
@@ -168,15 +179,8 @@ pub fn create_whole<R: Files + AllocGlobal>(
 ) -> Result<WholeFile<R::File>, FileError>
     ensures { IfOk result (λ file. ⟦<FileSink<R::File> as Sink>⟧.failures file.sink ≡ 0) }
 {
-    let part = match fs::symlink_metadata(rt, path) {
-        Ok(old) if old.is_file() && old.nlink() == 1 => return open_replaceable(rt, path, &old),
-        Err(error) if error.kind() == ErrorKind::NotFound => new_part(rt, path),
-        // Any other output isn't replaced.
-        _ => Ok(NewPart::Refused),
-    };
-    match part {
-        Ok(NewPart::Made(part, name)) => Ok(WholeFile::new(LateFile::new(part), Some(name))),
-        Ok(NewPart::Taken | NewPart::Refused) => Ok(WholeFile::new(create_file(rt, path)?, None)),
-        Err(AllocError) => Err(FileError::Memory),
+    match part_for(rt, path)? {
+        Some(Part { file, path }) => Ok(WholeFile::new(LateFile::new(file), Some(path))),
+        None => Ok(WholeFile::new(create_file(rt, path)?, None)),
     }
 }

@@ -1,24 +1,22 @@
 //! The jobs of `pass` and `show`, from their inputs to their outputs.
 ghost use Rattle.pcap_bench.specs.Options.{HasVlanNumber};
 
-use crate::file_error::FileError;
-use crate::files::{STANDARD_STREAM, read_trace};
-use crate::standard_error::StandardError;
-use crate::whole_file::create_whole;
+use crate::fault::Fault;
 use command_line::{PassJob, ShowJob};
 use pcap_bench::{Trace, Unit, WriterSink, pass, print_pass, show};
+use program_files::{STANDARD_STREAM, StandardError, create_whole, read_trace};
 use std::io;
 
 /// Returns the unit of the times in written traces: nanoseconds if `nanos` is true (`--nanos`), and otherwise
 /// microseconds.
-pub fn unit_of(nanos: bool) -> Unit {
+pub(crate) fn unit_of(nanos: bool) -> Unit {
     if nanos { Unit::Nanos } else { Unit::Micros }
 }
 
 /// Writes to a file the frames of a trace that pass, finishes the file, and writes to standard output the line of
 /// counts. If not all of these frames were written, abandons the file. The VLAN of the job's filter must be at most
 /// 4,095.
-fn pass_to_file(rt: &HostRuntime, job: &PassJob<'_>, trace: &Trace) -> Result<(), FileError>
+fn pass_to_file(rt: &HostRuntime, job: &PassJob<'_>, trace: &Trace) -> Result<(), Fault>
     requires { HasVlanNumber job.now.filter }
 {
     let mut file = create_whole(rt, job.output)?;
@@ -27,20 +25,16 @@ fn pass_to_file(rt: &HostRuntime, job: &PassJob<'_>, trace: &Trace) -> Result<()
         Ok(counts) => counts,
         Err(error) => {
             file.abandon(rt);
-            return Err(FileError::from(error));
+            return Err(Fault::from(error));
         }
     };
     file.finish(rt, job.output)?;
-    print_pass(trace, &counts, &mut WriterSink::new(io::writer(rt))).map_err(FileError::from)
+    print_pass(trace, &counts, &mut WriterSink::new(io::writer(rt))).map_err(Fault::from)
 }
 
 /// Writes to standard output the frames of a trace that pass, and to standard error the line of counts. A failed write
 /// to standard error isn't an error. The VLAN of the job's filter must be at most 4,095.
-fn pass_to_standard_output(
-    rt: &HostRuntime,
-    job: &PassJob<'_>,
-    trace: &Trace,
-) -> Result<(), FileError>
+fn pass_to_standard_output(rt: &HostRuntime, job: &PassJob<'_>, trace: &Trace) -> Result<(), Fault>
     requires { HasVlanNumber job.now.filter }
 {
     let unit = unit_of(job.nanos);
@@ -58,7 +52,7 @@ fn pass_to_standard_output(
 /// The first action that fails determines the error. IN is opened and read before OUT is opened, so both may be the
 /// same file. If not all frames that pass were written, an existing file OUT keeps its bytes, unless it is written in
 /// place ([`create_whole`]).
-pub fn run_pass(rt: &HostRuntime, job: &PassJob<'_>) -> Result<(), FileError>
+pub fn run_pass(rt: &HostRuntime, job: &PassJob<'_>) -> Result<(), Fault>
     requires { HasVlanNumber job.now.filter }
 {
     let trace = read_trace(rt, job.input)?;
@@ -73,7 +67,7 @@ pub fn run_pass(rt: &HostRuntime, job: &PassJob<'_>) -> Result<(), FileError>
 /// # Errors
 ///
 /// The trace can't be read, or standard output can't be written.
-pub fn run_show(rt: &HostRuntime, job: &ShowJob<'_>) -> Result<(), FileError> {
+pub fn run_show(rt: &HostRuntime, job: &ShowJob<'_>) -> Result<(), Fault> {
     let trace = read_trace(rt, job.trace)?;
-    show(&trace, &mut WriterSink::new(io::writer(rt))).map_err(FileError::from)
+    show(&trace, &mut WriterSink::new(io::writer(rt))).map_err(Fault::from)
 }

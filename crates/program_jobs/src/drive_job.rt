@@ -96,7 +96,7 @@ fn drive_frames(rt: &HostRuntime, job: &DriveJob<'_>, frames: &Frames) -> Result
 
 /// Runs `drive`: sends the frames of IN, writes OUT, and reports the counts. Refuses `-` as IN, because the adapter's
 /// answers are read from standard input.
-pub(crate) fn run_drive(rt: &HostRuntime, job: &DriveJob<'_>) -> Result<(), Fault> {
+pub fn run_drive(rt: &HostRuntime, job: &DriveJob<'_>) -> Result<(), Fault> {
     let trace = read_file_trace(rt, job.send)?;
     drive_frames(rt, job, &trace.frames)
 }

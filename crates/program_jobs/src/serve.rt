@@ -1,6 +1,6 @@
 //! The command `serve`.
 ghost use Rattle.std.specs.Prelude.{◌≡◌, IfOk};
-ghost use Rattle.nicbench.specs.Served.{IsImageFor, link_of, options_of};
+ghost use Rattle.program_jobs.specs.Served.{IsImageFor, link_of, options_of};
 
 use crate::codes::Code;
 use crate::fault::Fault;
@@ -138,11 +138,7 @@ fn serve_with(
 
 /// Runs `serve`. `words` are the words of the program, from which the job was read. After the last request, stores a
 /// recorded schedule, and reports the deviations that weren't met.
-pub(crate) fn run_serve(
-    rt: &HostRuntime,
-    words: &[String],
-    job: &ServeJob<'_>,
-) -> Result<(), Fault> {
+pub fn run_serve(rt: &HostRuntime, words: &[String], job: &ServeJob<'_>) -> Result<(), Fault> {
     let options = options_of(job, image_of(rt, job.image)?);
     let player = read_player(rt, job)?;
     serve_with(rt, words, job, &options, player)

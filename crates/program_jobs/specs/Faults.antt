@@ -1,11 +1,13 @@
 -- The exit status of the program after a fault, and what is printed with the fault's code (our choice).
-use Rattle.std.specs.Prelude.{◌≡◌, ℕ}
+use Rattle.std.specs.Prelude.{◌≡◌, ◌⊎◌, ℕ, List, string_bytes}
 use Rattle.adapter_server.specs.declared.serve_error.ServeError.{ServeError}
 use Rattle.adapter_server.specs.declared.serve_error.ServeError.TheVariants as server
 use Rattle.drive.specs.declared.drive_error.DriveError.{DriveError}
 use Rattle.drive.specs.declared.drive_error.DriveError.TheVariants as drive
 use Rattle.network_plan.specs.declared.plan_error.PlanError.{PlanError}
 use Rattle.network_plan.specs.declared.plan_error.PlanError.TheVariants as plan
+use Rattle.pcap_bench.specs.declared.pass_error.PassError.{PassError}
+use Rattle.pcap_bench.specs.declared.pass_error.PassError.TheVariants as passing
 use Rattle.pcap_trace.specs.declared.fault.ReadError.{ReadError}
 use Rattle.pcap_trace.specs.declared.fault.ReadError.TheVariants as input
 use Rattle.program_files.specs.declared.file_error.FileError.{FileError}
@@ -18,10 +20,10 @@ use Rattle.scenario_bench.specs.declared.bench_error.BenchError.{BenchError}
 use Rattle.scenario_bench.specs.declared.bench_error.BenchError.TheVariants as bench
 use Rattle.step_schedules.specs.declared.schedule_error.ScheduleError.{ScheduleError}
 use Rattle.step_schedules.specs.declared.schedule_error.ScheduleError.TheVariants as schedules
-use Rattle.nicbench.specs.Codes.{status_of_code}
-use Rattle.nicbench.specs.declared.fault.Detail.{Detail}
-use Rattle.nicbench.specs.declared.fault.Detail.TheVariants as details
-use Rattle.nicbench.specs.declared.fault.Fault.{Fault}
+use Rattle.program_jobs.specs.Codes.{status_of_code}
+use Rattle.program_jobs.specs.declared.fault.Detail.{Detail}
+use Rattle.program_jobs.specs.declared.fault.Detail.TheVariants as details
+use Rattle.program_jobs.specs.declared.fault.Fault.{Fault}
 
 -- The fault's code has this exit status, and this is printed with the code. Which of the codes with this status it is, isn't stated.
 abbrev pub HasStatusAndDetail : ℕ → Detail → Fault → Type 0
@@ -30,6 +32,15 @@ HasStatusAndDetail status detail fault = (status_of_code fault.code ≡ status) 
 -- nothing is printed with the code
 abbrev pub no_detail : Detail
 no_detail = details.Nothing
+
+-- this path is printed
+abbrev pub IsPath : List ℕ → Detail → Type 0
+IsPath path (details.Path text) = string_bytes text ≡ path
+IsPath path _ = ⊥
+
+-- The fault of an output at this path that is also another file of a run. The status is 4 if memory for the path was refused.
+abbrev pub IsUsed : List ℕ → Fault → Type 0
+IsUsed path fault = ((status_of_code fault.code ≡ 3) × IsPath path fault.detail) ⊎ HasStatusAndDetail 4 no_detail fault
 
 -- the status of an input that isn't a trace, can't be read, or for which memory was refused
 abbrev pub status_of_input : ReadError → ℕ
@@ -55,7 +66,6 @@ status_of_schedule schedules.Memory = 4
 
 abbrev pub status_of_file : FileError → ℕ
 status_of_file (files.Open path) = 3
-status_of_file (files.Used path) = 3
 status_of_file (files.Input error path) = status_of_input error
 status_of_file files.TraceMemory = 4
 status_of_file files.Pipe = 3
@@ -63,6 +73,10 @@ status_of_file (files.Schedule error) = status_of_schedule error
 status_of_file files.OtherOptions = 1
 status_of_file files.Write = 3
 status_of_file files.Memory = 4
+
+abbrev pub status_of_pass : PassError → ℕ
+status_of_pass passing.Memory = 4
+status_of_pass passing.Write = 3
 
 abbrev pub status_of_refusal : Refusal → ℕ
 status_of_refusal (refusals.Line line fault) = 1
@@ -92,7 +106,6 @@ detail_of_schedule error = details.Schedule error
 
 abbrev pub detail_of_file : FileError → Detail
 detail_of_file (files.Open path) = details.Path path
-detail_of_file (files.Used path) = details.Path path
 detail_of_file (files.Input error path) = details.Input path
 detail_of_file (files.Schedule error) = detail_of_schedule error
 detail_of_file files.OtherOptions = details.Options

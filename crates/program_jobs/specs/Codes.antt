@@ -1,8 +1,8 @@
 -- The exit status of each code (our choice): 4 if memory was refused; 3 if a file or a stream can't be opened, read or written, is too
 -- long, or is used twice; 1 for every other fault, such as an input that is refused.
 use Rattle.std.specs.Prelude.{ℕ}
-use Rattle.nicbench.specs.declared.codes.Code.{Code}
-use Rattle.nicbench.specs.declared.codes.Code.TheVariants as codes
+use Rattle.program_jobs.specs.declared.codes.Code.{Code}
+use Rattle.program_jobs.specs.declared.codes.Code.TheVariants as codes
 
 abbrev pub status_of_code : Code → ℕ
 status_of_code codes.E45 = 4

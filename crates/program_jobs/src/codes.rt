@@ -1,6 +1,6 @@
 //! The codes that the program prints on standard error if it fails.
 ghost use Rattle.std.specs.Prelude.{◌≡◌};
-ghost use Rattle.nicbench.specs.Codes as spec;
+ghost use Rattle.program_jobs.specs.Codes as spec;
 
 use std::fmt::{self, Display};
 
@@ -9,7 +9,7 @@ use std::fmt::{self, Display};
 //
 // `tools/pages --tables` makes the rows of the help texts and of docs/ERRORS.md from this file.
 #[derive(Clone, Copy)]
-pub(crate) enum Code {
+pub enum Code {
     /// The name of a host or a wire isn't 1 to 16 of a-z 0-9 _ -. Choose another
     E40,
     /// A wire has only 1 host, or more than 8. Check the names of wires, or add a host
@@ -124,7 +124,7 @@ impl Code {
 
     /// Returns the exit status: 4 if memory was refused, 3 if a file or a stream can't be used, 1 for every other
     /// fault.
-    pub(crate) fn status(self) -> u8
+    pub fn status(self) -> u8
         ensures { result ≡ spec.status_of_code self }
     {
         match self {

@@ -1,14 +1,14 @@
 //! Why the program ended.
 ghost use Rattle.std.specs.Prelude.{◌≡◌};
-ghost use Rattle.nicbench.specs.Codes.{status_of_code};
-ghost use Rattle.nicbench.specs.Faults as spec;
+ghost use Rattle.program_jobs.specs.Codes.{status_of_code};
+ghost use Rattle.program_jobs.specs.Faults as spec;
 
 use crate::codes::Code;
 use adapter_server::ServeError;
 use bring_up::InitError;
 use drive::{BusFault, DriveError};
 use network_plan::PlanError;
-use pcap_bench::{ReadError, WriteError};
+use pcap_bench::{PassError, ReadError, WriteError};
 use program_files::FileError;
 use scenario::{Fault as LineFault, Refusal};
 use scenario_bench::BenchError;
@@ -18,16 +18,16 @@ use step_schedules::ScheduleError;
 
 /// Why the program ended.
 #[derive(Drop)]
-pub(crate) struct Fault {
+pub struct Fault {
     /// The code, with the exit status.
-    pub(crate) code: Code,
+    pub code: Code,
     /// What is printed with the code.
-    detail: Detail,
+    pub detail: Detail,
 }
 
 /// What the program prints with a code.
 #[derive(Drop)]
-pub(crate) enum Detail {
+pub enum Detail {
     /// Nothing.
     Nothing,
     /// The number of the line of a scenario that was refused, from 1.
@@ -110,15 +110,29 @@ impl Fault {
         }
     }
 
+    /// Returns the fault of an output that is also another file of a run (E73), at this path. The code is E57 if there
+    /// is no memory for the path.
+    pub(crate) fn used(alloc: Global, path: &str) -> Fault
+        ensures { spec.IsUsed path.now result }
+    {
+        match String::from_str(alloc, path) {
+            Ok(path) => Fault {
+                code: Code::E73,
+                detail: Detail::Path(path),
+            },
+            Err(_) => Fault::of(Code::E57),
+        }
+    }
+
     /// Returns whether existing files in OUTDIR are certainly unchanged after a run that ended with this fault. A run
     /// writes these files after its last event, so they can change only if the fault is a failed write (E67).
-    pub(crate) fn keeps_old_files(&self) -> bool {
+    pub fn keeps_old_files(&self) -> bool {
         !matches!(self.code, Code::E67)
     }
 
     /// Returns the meaning of a fault of an input, and what a user can do. In the text of the code, the path of the
     /// input replaces the placeholder `IN`. Returns `None` for other faults, and if there is no memory for the text.
-    pub(crate) fn advice(&self, alloc: Global) -> Option<String> {
+    pub fn advice(&self, alloc: Global) -> Option<String> {
         match &self.detail {
             Detail::Input(path) => self.code.advice()?.replace(alloc, "IN", path.as_str()).ok(),
             _ => None,
@@ -148,10 +162,6 @@ impl From<FileError> for Fault {
                 code: Code::E68,
                 detail: Detail::Path(path),
             },
-            FileError::Used(path) => Fault {
-                code: Code::E73,
-                detail: Detail::Path(path),
-            },
             FileError::Input(error, path) => Fault {
                 code: input_code(error),
                 detail: Detail::Input(path),
@@ -174,6 +184,17 @@ impl From<WriteError> for Fault {
 
     fn from(_error: WriteError) -> Fault {
         Fault::of(Code::E67)
+    }
+}
+
+impl From<PassError> for Fault {
+    ghost from_gives = { λ e. spec.HasStatusAndDetail (spec.status_of_pass e) spec.no_detail };
+
+    fn from(error: PassError) -> Fault {
+        match error {
+            PassError::Memory => Fault::of(Code::E57),
+            PassError::Write => Fault::of(Code::E67),
+        }
     }
 }
 

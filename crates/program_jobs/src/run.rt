@@ -5,11 +5,11 @@ ghost use Rattle.scenario_bench.specs.FileNames.{sockets_in, wires_in};
 use crate::events_file::create_events_sink;
 use crate::fault::Fault;
 use crate::output_names::{OutputNames, output_names};
+use crate::trace_jobs::unit_of;
 use command_line::RunJob;
 use pcap_bench::{Sink, Trace, WriteError, WriterSink};
 use program_files::{
     STANDARD_STREAM, StandardError, create_all, find_folder, read_bytes, read_traces, report_play,
-    unit_of,
 };
 use scenario::Scenario;
 use scenario_bench::{Refusals, Summary, bench, print_summary};
@@ -172,7 +172,7 @@ fn play_scenario(
 
 /// Reads SCENARIO and the traces that it feeds, plays the scenario, and writes its files. Prints a line for each host,
 /// and on request a line for each event and drain.
-pub(crate) fn run_scenario(rt: &HostRuntime, job: &RunJob<'_>) -> Result<(), Fault> {
+pub fn run_scenario(rt: &HostRuntime, job: &RunJob<'_>) -> Result<(), Fault> {
     let scenario = read_scenario(rt, job.scenario)?;
     let traces = read_traces(rt, scenario.trace_names())?;
     play_scenario(rt, job, &scenario, traces.as_slice())
