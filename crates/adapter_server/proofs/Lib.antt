@@ -2,7 +2,6 @@ pub mod FromNew
 pub mod Places
 pub mod Printing
 pub mod ReadRequests
-pub mod Requests
 pub mod ServedLines
 pub mod ServedParts
 pub mod Tasks

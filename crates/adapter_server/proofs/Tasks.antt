@@ -118,11 +118,6 @@ settles time said a b text does =
       text_is = answered.text_is ∙ ap (λ (l : Text). answered.told ++ l) plays.1;
     }
 
-pub begun_fits : (task : Task) (into : List ℕ) (a begun : Session) → begun ≡ task_begun task a → FitsTask task into a.device
-    → FitsTask task into begun.device
-begun_fits task into a begun same fits =
-    subst (λ (device : PlayedAdapter). FitsTask task into device) (sym (ap (λ (s : Session). s.device) same)) fits
-
 pub moved_fits : (task : Task) (into : List ℕ) (moves : List Move) (a b : PlayedAdapter) (told : List Told) → InOrder Makes moves a b told
     → FitsTask task into a → FitsTask task into b
 moved_fits (tasks.Read (Register offset) address wanted) into moves a b told made fits = fits
@@ -145,8 +140,7 @@ met_by task session = record session { agenda = task_agenda task session.device.
 -- What answers a task after the recorder began the task's event.
 abbrev pub AnswersBegun : Task → (said : Text) → Session → Session → Text → Type 0
 AnswersBegun task said a b text =
-    AnswersAfter (task_moves task a.device a.agenda) (task_wanted task a.device.machine.world.adapter a.agenda) task said (met_by task a) b
-    text
+    AnswersAfter (task_moves task a.device a.agenda) (task_wanted task a.agenda) task said (met_by task a) b text
 
 pub performs : {T E : Type 0} (result : Result T E) (task : Task) (said : Text) (a begun b : Session)
     (before after : Option (List ℕ)) → begun ≡ task_begun task a → TellsAnswer result before after (AnswersBegun task said begun) b

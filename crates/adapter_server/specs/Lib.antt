@@ -3,5 +3,6 @@ pub mod Defaults
 pub mod Sessions
 pub mod NewSessions
 pub mod Answers
+pub mod Enabled
 pub mod Serving
 pub mod Tasks

@@ -17,6 +17,7 @@ use Rattle.server_output.specs.declared.answers.Answer.{Answer}
 use Rattle.server_requests.specs.Widths.{wanted_size}
 use Rattle.server_requests.specs.declared.request.Wanted.{Wanted}
 use Rattle.step_schedules.specs.Agendas.{AgendaState}
+use Rattle.step_schedules.specs.Players.{RecorderState}
 use Rattle.step_schedules.specs.declared.deviation.Before.{Before}
 use Rattle.step_schedules.specs.declared.deviation.Before.TheVariants.{Choice, Read, Request, Write}
 use Rattle.adapter_server.specs.Answers.{Answered, Played, PlaysArrival, PlaysOffer, PlaysSettle, PlaysStep}
@@ -63,12 +64,17 @@ abbrev pub task_agenda : Task → AdapterState → Option AgendaState → Option
 task_agenda task adapter agenda =
     option_map_or (λ (before : Before). met_agenda before (task_name task adapter) agenda) (task_before task) agenda
 
+-- the recorder, if there is one, after it began the task's access or request; the same recorder without an agenda, or if the task sets the
+-- clock
+abbrev pub task_recorder : Task → AdapterState → Option AgendaState → Option RecorderState → Option RecorderState
+task_recorder task adapter agenda recorder =
+    option_map_or (λ (before : Before). begun_recorder before (task_name task adapter) agenda recorder) (task_before task) recorder
+
 -- the session after its recorder, if there is a player, began the task's access or request; the same session if the task sets the clock
 abbrev pub task_begun : Task → Session → Session
 task_begun task session =
-    let recorder = session.kept.recorder in
-    let begun = λ (before : Before). begun_recorder before (task_name task session.device.machine.world.adapter) session.agenda recorder in
-    record session { kept = record session.kept { recorder = option_map_or begun (task_before task) recorder } }
+    let recorder = task_recorder task session.device.machine.world.adapter session.agenda session.kept.recorder in
+    record session { kept = record session.kept { recorder = recorder } }
 
 -- The session after its player, if there is one, has met the task: the recorder began the task's access or request, and the agenda counted
 -- it. The same session if the task sets the clock.
@@ -81,10 +87,10 @@ abbrev pub task_moves : Task → PlayedAdapter → Option AgendaState → List M
 task_moves task device agenda =
     option_map_or (λ (before : Before). moves_with before (task_name task device.machine.world.adapter) device agenda) (task_before task) []
 
--- the number in the schedule that is due at the task, or 0
-abbrev pub task_wanted : Task → AdapterState → Option AgendaState → ℕ
-task_wanted task adapter agenda =
-    option_map_or (λ (before : Before). wanted_with before (task_name task adapter) agenda) (task_before task) 0
+-- the number in the schedule that is due at `choose`, or 0; other tasks use no number
+abbrev pub task_wanted : Task → Option AgendaState → ℕ
+task_wanted (tasks.Choose limit) agenda = wanted_with Choice (codes "choose") agenda
+task_wanted task agenda = 0
 
 -- the line of an access, and after it the name of the access's target
 abbrev pub named_line : (said : Text) → Task → Session → Text
@@ -139,6 +145,4 @@ AnswersAfter moves wanted task said a b text = (line : Text)
 -- The player, if there is one, meets a task, unless the task sets the clock. Then the task is played and answered.
 abbrev pub Performs : Task → (said : Text) → Session → Session → Text → Type 0
 Performs task said a b text =
-    AnswersAfter (task_moves task a.device a.agenda) (task_wanted task a.device.machine.world.adapter a.agenda) task said
-    (task_met task a) b
-    text
+    AnswersAfter (task_moves task a.device a.agenda) (task_wanted task a.agenda) task said (task_met task a) b text

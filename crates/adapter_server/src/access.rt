@@ -9,7 +9,7 @@ ghost use Rattle.server_requests.specs.Widths.{wanted_size};
 use crate::answering::perform;
 use crate::session::{AccessPlace, Session};
 use crate::task::{REGISTER_WIDTH, Task};
-use server_output::{AnswerError, refuse};
+use server_output::{AnswerError, joined, refuse};
 use server_requests::Wanted;
 use std::alloc::Global;
 use std::io::Write;
@@ -33,7 +33,8 @@ fn access<W: Write>(
     if !session.targets {
         return perform(session, alloc, out, said, task, into);
     }
-    let line = session.named_line(alloc, said, task)?;
+    let name = task.name(alloc, &session.device)?;
+    let line = joined(alloc, &[said, b" -> ", name.as_bytes()])?;
     perform(session, alloc, out, line.as_slice(), task, into)
 }
 
@@ -56,13 +57,14 @@ pub(crate) fn read<W: Write>(
         (access_said (place_in session.old address (wanted_size wanted)) address said.now session.old) session.old)
         session.new }
 {
-    match session.place_of(address, wanted.size()) {
+    let size = wanted.size();
+    match session.place_of(address, size) {
         Ok(AccessPlace::Register(offset)) => {
             let task = Task::Read(AccessPlace::Register(offset), address, wanted);
             access(session, alloc, out, said, task, &mut [0; REGISTER_WIDTH])
         }
         Ok(AccessPlace::Memory) => {
-            let mut bytes = vec![in alloc; 0; wanted.size() as usize]?;
+            let mut bytes = vec![in alloc; 0; size as usize]?;
             let task = Task::Read(AccessPlace::Memory, address, wanted);
             access(session, alloc, out, said, task, bytes.as_mut_slice())
         }

@@ -1,6 +1,6 @@
 // Answers to requests. `TellsAnswer` states that the answer was written, or at an error a beginning of the answer.
 
-ghost use Rattle.adapter_server.specs.Answers.{MovesClock, SessionDoes, TellsAnswer, request_said};
+ghost use Rattle.adapter_server.specs.Answers.{MovesClock, TellsAnswer};
 ghost use Rattle.adapter_server.specs.Tasks.{FitsTask, Performs};
 
 use crate::access::{read, write};
@@ -33,7 +33,8 @@ pub(crate) fn perform<W: Write>(
     ensures { TellsAnswer result (W.contents out.old) (W.contents out.new)
         (Performs task.entry said.now session.old) session.new }
 {
-    session.begin(alloc, task)?;
+    let recorder = &mut session.kept.recorder;
+    task.begin(alloc, &session.device, &session.agenda, recorder)?;
     let mut lines = Lines {
         out,
         kept: &mut session.kept,
@@ -42,8 +43,8 @@ pub(crate) fn perform<W: Write>(
         stopped: None,
     };
     let device = &mut session.device;
-    let agenda = &mut session.agenda;
-    match task.perform(alloc, device, agenda, into, &mut lines) {
+    let wanted = task.meet(device, &mut session.agenda, &mut lines);
+    match task.play(alloc, device, wanted, into, &mut lines) {
         Ok(answer) => lines.end(answer),
         // A task fails only if memory is refused.
         Err(_) => Err(AnswerError::Memory),
@@ -74,65 +75,14 @@ fn move_clock<W: Write>(
     done
 }
 
-/// Answers a request. Does nothing at `save` and `restore`, which [`Server::answer`] answers.
-///
-/// `said` is the line of the request. After the request `log targets`, the log's line of an access ends with the name
-/// of the access's target (`request_said`).
-fn answer_session<W: Write>(
-    session: &mut Session,
-    alloc: Global,
-    out: &mut W,
-    said: &[u8],
-    request: &Request,
-) -> Result<(), AnswerError>
-    ensures { TellsAnswer result (W.contents out.old) (W.contents out.new)
-        (SessionDoes request.now (request_said request.now said.now session.old) session.old) session.new }
-{
-    match *request {
-        Request::Read(wanted, address) => read(session, alloc, out, said, wanted, address),
-        Request::Write(address, ref bytes) => {
-            write(session, alloc, out, said, address, bytes.as_slice())
-        }
-        Request::Look(what) => look(session, alloc, out, what),
-        Request::WritePort(width, port, value) => {
-            session.function.write_port(port, width, value);
-            say(out, b"OK\n")
-        }
-        Request::Set(setting) => {
-            session.set(setting);
-            say(out, b"OK\n")
-        }
-        Request::Step(kind) => perform(session, alloc, out, said, Task::Step(kind), &mut []),
-        Request::Arrive(ref frame) => {
-            let task = Task::Arrive(frame.as_slice());
-            perform(session, alloc, out, said, task, &mut [])
-        }
-        Request::Settle => perform(session, alloc, out, said, Task::Settle, &mut []),
-        Request::Offer(ref frame) => {
-            let task = Task::Offer(frame.as_slice());
-            perform(session, alloc, out, said, task, &mut [])
-        }
-        Request::Choose(limit) => {
-            perform(session, alloc, out, said, Task::Choose(limit), &mut [])
-        }
-        Request::ClockStep(nanoseconds) => {
-            let time = session.clock.checked_add(nanoseconds);
-            move_clock(session, alloc, out, said, time)
-        }
-        Request::ClockSet(time) => {
-            // The clock never goes back.
-            let time = session.clock.max(time);
-            move_clock(session, alloc, out, said, Some(time))
-        }
-        Request::Save | Request::Restore => Ok(()),
-    }
-}
-
 impl Server {
     ghost use Rattle.adapter_server.specs.Answers.{Does};
     ghost use Rattle.adapter_server.specs.Serving.{AnswersNext};
 
-    /// Answers a request. `said` is the line of the request.
+    /// Answers a request. `said` is the line of the request. After the request `log targets`, the log's line of an
+    /// access ends with the name of the access's target (`request_said`).
+    ///
+    /// `clock_set` never sets the clock back.
     fn answer<W: Write>(
         &mut self,
         alloc: Global,
@@ -143,10 +93,44 @@ impl Server {
         ensures { TellsAnswer result (W.contents out.old) (W.contents out.new)
             (Does request.now said.now self.old) self.new }
     {
-        match request {
+        let session = &mut self.session;
+        match *request {
+            Request::Read(wanted, address) => read(session, alloc, out, said, wanted, address),
+            Request::Write(address, ref bytes) => {
+                write(session, alloc, out, said, address, bytes.as_slice())
+            }
+            Request::Look(what) => look(session, alloc, out, what),
+            Request::WritePort(width, port, value) => {
+                session.function.write_port(port, width, value);
+                say(out, b"OK\n")
+            }
+            Request::Set(setting) => {
+                session.set(setting);
+                say(out, b"OK\n")
+            }
+            Request::Step(kind) => perform(session, alloc, out, said, Task::Step(kind), &mut []),
+            Request::Arrive(ref frame) => {
+                let task = Task::Arrive(frame.as_slice());
+                perform(session, alloc, out, said, task, &mut [])
+            }
+            Request::Settle => perform(session, alloc, out, said, Task::Settle, &mut []),
+            Request::Offer(ref frame) => {
+                let task = Task::Offer(frame.as_slice());
+                perform(session, alloc, out, said, task, &mut [])
+            }
+            Request::Choose(limit) => {
+                perform(session, alloc, out, said, Task::Choose(limit), &mut [])
+            }
+            Request::ClockStep(nanoseconds) => {
+                let time = session.clock.checked_add(nanoseconds);
+                move_clock(session, alloc, out, said, time)
+            }
+            Request::ClockSet(time) => {
+                let time = session.clock.max(time);
+                move_clock(session, alloc, out, said, Some(time))
+            }
             Request::Save => self.save(out),
             Request::Restore => self.restore(out),
-            _ => answer_session(&mut self.session, alloc, out, said, request),
         }
     }
 

@@ -1,7 +1,7 @@
 // The state before the first request.
 
 ghost use Rattle.std.specs.Prelude.{◌≡◌, IfOk};
-ghost use Rattle.adapter_server.specs.NewSessions.{adapter_of, new_device};
+ghost use Rattle.adapter_server.specs.NewSessions.{new_device};
 ghost use Rattle.adapter_server.specs.Serving.{new_server};
 
 use crate::options::ServeOptions;
@@ -16,25 +16,17 @@ use server_output::{AnswerError, Faults, Kept};
 use std::alloc::{AllocError, Global};
 use step_schedules::Player;
 
-/// Returns a new adapter with the EEPROM and the link of the options. PBA was written once, with the kilobytes of the
-/// options, and MPC has the count of the options.
-fn adapter_of(alloc: Global, options: &ServeOptions) -> Result<Adapter, AllocError>
-    ensures { IfOk result (λ adapter. adapter ≡ adapter_of options.now) }
-{
-    let mut adapter = Adapter::new(alloc, &options.image, options.link)?;
-    adapter.write(PBA, u32::from(options.receive_kilobytes));
-    adapter.set_missed(options.missed);
-    Ok(adapter)
-}
-
-/// Returns a new adapter with memory of zeros. No frame is offered, and no step is played before or after an access.
-/// Frames that the adapter puts don't wait on a wire: only the observer gets them.
+/// Returns a new adapter with the EEPROM and the link of the options, and memory of zeros. PBA was written once, with
+/// the kilobytes of the options, and MPC has the count of the options. No frame is offered, and no step is played
+/// before or after an access. Frames that the adapter puts don't wait on a wire: only the observer gets them.
 fn new_device(alloc: Global, options: &ServeOptions) -> Result<PlayedAdapter, AllocError>
     // Contracts don't define the address of the memory, so the clause uses the result's address.
     ensures { IfOk result (λ device. device ≡ new_device options.now device.address) }
 {
     let memory = HostMemory::new(alloc, options.memory)?;
-    let adapter = adapter_of(alloc, options)?;
+    let mut adapter = Adapter::new(alloc, &options.image, options.link)?;
+    adapter.write(PBA, u32::from(options.receive_kilobytes));
+    adapter.set_missed(options.missed);
     PlayedAdapter::without_wire(alloc, adapter, memory, options.seed)
 }
 

@@ -1,14 +1,13 @@
 // The state of an adapter that is served.
 
 ghost use Rattle.std.specs.Prelude.{◌≡◌, ◌-◌, None, Some, if◌then◌else◌};
-ghost use Rattle.adapter_server.specs.Sessions.{is_register, overlaps_registers, place_with};
+ghost use Rattle.adapter_server.specs.Sessions.{is_register, overlaps_registers};
 
-use crate::task::Task;
 use played_adapter::PlayedAdapter;
 use registers::PciFunction;
-use server_output::{Kept, joined};
+use server_output::Kept;
 use server_requests::{Refusal, Setting};
-use std::alloc::{AllocError, Global};
+use std::alloc::AllocError;
 use step_schedules::Agenda;
 
 /// The size of all registers together, in bytes (13.4 "Main Register Descriptions").
@@ -71,41 +70,9 @@ fn register_at(registers: u64, address: u64, count: u64) -> Option<u32>
     }
 }
 
-/// Returns the target of an access of `count` bytes at an address, or why the access is refused.
-///
-/// `registers` is the address of the first register, or `None` if no address reaches registers. `in_memory` is true if
-/// memory contains all bytes of the access. If memory also contains bytes of registers, an access of four aligned bytes
-/// reaches the register, and any other access reaches memory.
-///
-/// An access that reaches neither a register nor memory is refused: with `Register` if some of its bytes are bytes of
-/// registers, else with `Address`.
-fn place_with(
-    registers: Option<u64>,
-    in_memory: bool,
-    address: u64,
-    count: u64,
-) -> Result<AccessPlace, Refusal>
-    ensures { result ≡ place_with registers in_memory address count }
-{
-    if let Some(registers) = registers {
-        if let Some(offset) = register_at(registers, address, count) {
-            return Ok(AccessPlace::Register(offset));
-        }
-        if !in_memory && overlaps_registers(registers, address, count) {
-            return Err(Refusal::Register);
-        }
-    }
-    if in_memory {
-        Ok(AccessPlace::Memory)
-    } else {
-        Err(Refusal::Address)
-    }
-}
-
 impl Session {
     ghost use Rattle.std.specs.Prelude.{IfOk};
-    ghost use Rattle.adapter_server.specs.Sessions.{IsCopied, place_in, plays_schedule, with_setting};
-    ghost use Rattle.adapter_server.specs.Tasks.{named_line};
+    ghost use Rattle.adapter_server.specs.Sessions.{IsCopied, place_in, with_setting};
 
     /// Returns a copy that shares no memory with the session. The level of the copy's interrupt line counts as
     /// reported, so the copy reports only later changes.
@@ -122,16 +89,6 @@ impl Session {
         })
     }
 
-    /// Returns whether a schedule is played. A player that only records plays no schedule.
-    pub(crate) fn plays_schedule(&self) -> bool
-        ensures { result ≡ plays_schedule self.now }
-    {
-        match &self.agenda {
-            Some(agenda) => agenda.has_schedule(),
-            None => false,
-        }
-    }
-
     /// Changes a setting for later requests. While a schedule is played, `Interleave` turns random steps off, because
     /// the schedule determines the steps.
     pub(crate) fn set(&mut self, setting: Setting)
@@ -139,7 +96,12 @@ impl Session {
     {
         match setting {
             Setting::Interleave(count) => {
-                self.device.most_steps = if self.plays_schedule() { 0 } else { count };
+                // A player that only records plays no schedule.
+                let is_scheduled = match &self.agenda {
+                    Some(agenda) => agenda.has_schedule(),
+                    None => false,
+                };
+                self.device.most_steps = if is_scheduled { 0 } else { count };
             }
             Setting::Pace(count) => self.device.pace = count,
             Setting::Log { on, targets } => {
@@ -151,30 +113,30 @@ impl Session {
         }
     }
 
-    /// Returns the text that the log prints for an access after `log targets`: the line of the access, and the name of
-    /// the access's target.
-    pub(crate) fn named_line(
-        &self,
-        alloc: Global,
-        said: &[u8],
-        task: Task<'_>,
-    ) -> Result<Vec<u8>, AllocError>
-        ensures { IfOk result (λ line. line.items ≡ named_line said.now task.entry self.now) }
-    {
-        let name = task.name(alloc, &self.device.machine)?;
-        let parts: [&[u8]; 3] = [said, b" -> ", name.as_bytes()];
-        joined(alloc, &parts)
-    }
-
     /// Returns the target of an access of `count` bytes at an address, or why the access is refused.
+    ///
+    /// If memory also contains bytes of registers, an access of four aligned bytes reaches the register, and any other
+    /// access reaches memory.
+    ///
+    /// An access that reaches neither a register nor memory is refused: with `Register` if some of its bytes are bytes
+    /// of registers, else with `Address`.
     pub(crate) fn place_of(&self, address: u64, count: u64) -> Result<AccessPlace, Refusal>
         ensures { result ≡ place_in self.now address count }
     {
-        place_with(
-            self.function.registers(),
-            self.device.has_bytes(address, count),
-            address,
-            count,
-        )
+        let in_memory = self.device.has_bytes(address, count);
+        // Without an address of the first register, no address reaches registers.
+        if let Some(registers) = self.function.registers() {
+            if let Some(offset) = register_at(registers, address, count) {
+                return Ok(AccessPlace::Register(offset));
+            }
+            if !in_memory && overlaps_registers(registers, address, count) {
+                return Err(Refusal::Register);
+            }
+        }
+        if in_memory {
+            Ok(AccessPlace::Memory)
+        } else {
+            Err(Refusal::Address)
+        }
     }
 }

@@ -62,9 +62,9 @@ impl Server {
         let Some(saved) = &self.saved else {
             return refuse(out, Refusal::Saved);
         };
-        let session = saved.copy()?;
         let before = self.session.device.machine.line();
-        let level = session.device.machine.line();
+        let level = saved.device.machine.line();
+        let session = saved.copy()?;
         put_in_place(&mut self.session, session);
         say(out, restored_text((level != before).then_some(level)))
     }

@@ -2,15 +2,13 @@
 
 ghost use Rattle.std.specs.Prelude.{◌≡◌, IfOk, length, string_bytes};
 ghost use Rattle.std.specs.Int.{from_le_bytes, w32};
-ghost use Rattle.adapter_server.specs.Sessions.{FitsPlace, target_in, writing_access};
+ghost use Rattle.adapter_server.specs.Sessions.{FitsPlace, target_in};
 ghost use Rattle.adapter_server.specs.Tasks.{ReadsFrom};
 ghost use Rattle.played_adapter.specs.Order.{Tells};
-ghost use Rattle.played_adapter.specs.Requests.{ServesAccess};
 
 use crate::session::AccessPlace;
 use access_names::{Target, memory_target};
 use adapter::StepKind;
-use bus::Machine;
 use played_adapter::{Observer, PlayedAdapter};
 use server_output::{Answer, fate_word, outcome_word};
 use server_requests::Wanted;
@@ -42,12 +40,12 @@ pub enum Task<'a> {
 }
 
 /// Returns the target of an access at a place. The address matters only for a place in memory.
-pub(crate) fn target_at(machine: &Machine, place: AccessPlace, address: u64) -> Target
-    ensures { result ≡ target_in place address machine.now.world.adapter }
+pub(crate) fn target_at(device: &PlayedAdapter, place: AccessPlace, address: u64) -> Target
+    ensures { result ≡ target_in place address device.now.machine.world.adapter }
 {
     match place {
         AccessPlace::Register(offset) => Target::Register(offset),
-        AccessPlace::Memory => memory_target(machine, address),
+        AccessPlace::Memory => memory_target(&device.machine, address),
     }
 }
 
@@ -86,30 +84,6 @@ fn read_from<O: Observer>(
     }
 }
 
-/// Writes bytes at a place. Before the write, plays the steps and arrivals that the generator draws. After the write,
-/// plays up to `pace` cycles.
-///
-/// A write of a register needs 4 bytes, and ignores `address`. Memory must contain the places of all bytes that are
-/// written to it.
-fn write_to<O: Observer>(
-    device: &mut PlayedAdapter,
-    place: AccessPlace,
-    address: u64,
-    bytes: &[u8],
-    observer: &mut O,
-)
-    requires { FitsPlace place address bytes.now device.old }
-    ensures { Tells O.heard observer.old observer.new
-        (ServesAccess (writing_access place address bytes.now) device.old device.new) }
-{
-    match place {
-        AccessPlace::Register(offset) => {
-            device.serve_write(offset, register_value(bytes), observer);
-        }
-        AccessPlace::Memory => device.serve_store(address, bytes, observer),
-    }
-}
-
 impl<'a> Task<'a> {
     ghost use Rattle.adapter_server.specs.Tasks.{FitsTask, PlaysTo, task_before, task_name, task_word};
     ghost use Rattle.server_output.specs.Answers.{IsSized};
@@ -145,12 +119,13 @@ impl<'a> Task<'a> {
 
     /// Returns the name of the task's access or request in schedules: the name of an access's target, or the first word
     /// of another request. Returns an empty text if the task sets the clock.
-    pub(crate) fn name(self, alloc: Global, machine: &Machine) -> Result<String, AllocError>
-        ensures { IfOk result (λ name. string_bytes name ≡ task_name self.entry machine.now.world.adapter) }
+    pub(crate) fn name(self, alloc: Global, device: &PlayedAdapter) -> Result<String, AllocError>
+        ensures { IfOk result (λ name. string_bytes name
+            ≡ task_name self.entry device.now.machine.world.adapter) }
     {
         match self {
-            Task::Read(place, address, _) => target_at(machine, place, address).to_string(alloc),
-            Task::Write(place, address, _) => target_at(machine, place, address).to_string(alloc),
+            Task::Read(place, address, _) => target_at(device, place, address).to_string(alloc),
+            Task::Write(place, address, _) => target_at(device, place, address).to_string(alloc),
             _ => String::from_str(alloc, self.word()),
         }
     }
@@ -178,8 +153,12 @@ impl<'a> Task<'a> {
                 read_from(device, place, address, into, observer);
                 Ok(Answer::Bytes(form, into))
             }
-            Task::Write(place, address, bytes) => {
-                write_to(device, place, address, bytes, observer);
+            Task::Write(AccessPlace::Register(offset), _, bytes) => {
+                device.serve_write(offset, register_value(bytes), observer);
+                Ok(Answer::Done)
+            }
+            Task::Write(AccessPlace::Memory, address, bytes) => {
+                device.serve_store(address, bytes, observer);
                 Ok(Answer::Done)
             }
             Task::Step(kind) => {

@@ -14,7 +14,7 @@ use Rattle.adapter_server.proofs.access.read.Goals as goal
 pub access-requires : goal.access-requires
 access-requires g c =
     let place : place_in c.args.session.now c.args.address (wanted_size c.args.wanted) ≡ Ok (Register c.in-Ok-Register.offset) =
-    ap (place_in c.args.session.now c.args.address) (sym c.size.ensures) ∙ sym c.place_of.ensures ∙ c.in-Ok-Register.is
+    ap (place_in c.args.session.now c.args.address) (sym c.size-size.ensures) ∙ sym c.place_of.ensures ∙ c.in-Ok-Register.is
     ∙ ap Ok c.in-Ok-Register.field-0-is in
     (sym (register_place c.args.session.now c.args.address (wanted_size c.args.wanted) c.in-Ok-Register.offset place), refl)
 
@@ -24,7 +24,7 @@ returns-in-Ok-Register g c =
     let place = Register c.in-Ok-Register.offset in
     let task = tasks.Read place c.args.address c.args.wanted in
     let said = task_said task c.args.said.now a in
-    rw (← c.size.ensures, ← c.place_of.ensures, c.in-Ok-Register.is, c.in-Ok-Register.field-0-is)
+    rw (← c.size-size.ensures, ← c.place_of.ensures, c.in-Ok-Register.is, c.in-Ok-Register.field-0-is)
     (answer_so c.access.result (Performs task said a) (ReadsAt (Ok place) c.args.wanted c.args.address said a) (λ (b : Session). b)
     c.access.new.session _ _ (reads place c.args.address c.args.wanted said a) c.access.ensures)
 
@@ -36,7 +36,7 @@ returns-in_ok-bytes-in-Ok-Memory g c =
     let a = c.args.session.now in
     let task = tasks.Read Memory c.args.address c.args.wanted in
     let said = task_said task c.args.said.now a in
-    rw (← c.size.ensures, ← c.place_of.ensures, c.in-Ok-Memory.is, c.in-Ok-Memory.field-0-is)
+    rw (← c.size-size.ensures, ← c.place_of.ensures, c.in-Ok-Memory.is, c.in-Ok-Memory.field-0-is)
     (answer_so c.access-in-Ok-Memory.result (Performs task said a) (ReadsAt (Ok Memory) c.args.wanted c.args.address said a)
     (λ (b : Session). b) c.access-in-Ok-Memory.new.session _ _ (reads Memory c.args.address c.args.wanted said a)
     c.access-in-Ok-Memory.ensures)
@@ -44,4 +44,4 @@ returns-in_ok-bytes-in-Ok-Memory g c =
 pub returns-in-Err : goal.returns-in-Err
 returns-in-Err g c =
     let a = c.args.session.now in
-    rw (← c.size.ensures, ← c.place_of.ensures, c.in-Err.is) (replied c.refuse.result _ a _ _ c.refuse.ensures)
+    rw (← c.size-size.ensures, ← c.place_of.ensures, c.in-Err.is) (replied c.refuse.result _ a _ _ c.refuse.ensures)

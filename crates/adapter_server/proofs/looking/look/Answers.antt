@@ -1,8 +1,12 @@
-use Rattle.std.proofs.Common.{◌≡◌, ◌∙◌, ap, codes, rules}
+use Rattle.std.proofs.Common.{◌≡◌, ◌∙◌, [], ap, codes, rules, subst, sym}
 use Rattle.std.specs.Prelude.{List, ℕ}
-use Rattle.server_output.specs.Texts.{ok_line, rings_line, word_line}
+use Rattle.access_names.specs.Names.{target_text}
+use Rattle.access_names.specs.declared.engine_fault.EngineFault.{EngineFault}
+use Rattle.server_output.specs.Texts.{enabled_line, faults_line, ok_line, rings_line, word_line}
 use Rattle.registers.specs.Ports.{port_answer}
-use Rattle.adapter_server.specs.Answers.{AnswersRings, Replies, line_number}
+use Rattle.adapter_server.specs.Answers.{AnswersEnabled, AnswersFaults, AnswersRings, AnswersTarget, Replies, TellsAnswer, enabled_with}
+use Rattle.adapter_server.specs.Answers.{line_number}
+use Rattle.adapter_server.specs.Sessions.{place_in, target_at_place}
 use Rattle.adapter_server.specs.declared.session.Session.{Session}
 use Rattle.adapter_server.proofs.Printing.{answer_so, fetched, replied}
 use Rattle.adapter_server.proofs.looking.look.Goals as goal
@@ -39,16 +43,46 @@ returns-in-Frames g c =
     c.say_frames.ensures.none c.say_frames.ensures.text)
 
 pub returns-in-Faults : goal.returns-in-Faults
-returns-in-Faults g c = rw c.in-Faults.is c.fetch_faults.ensures
+returns-in-Faults g c =
+    let a = c.args.session.now in
+    let with : List EngineFault → Session = λ faults. record a { kept = record a.kept { faults = faults } } in
+    let none : c.replace-faults.new.dest ≡ [] = c.replace-faults.ensures.after ∙ c.new.ensures in
+    rw c.in-Faults.is
+    (subst
+    (λ (faults : List EngineFault). TellsAnswer c.say_faults.result (g.W.Write.contents c.args.out.now)
+    (g.W.Write.contents c.say_faults.new.out) (AnswersFaults a) (with faults)) (sym none)
+    (replied c.say_faults.result (faults_line a.kept.faults) (with []) _ _
+    (rw c.replace-faults.ensures.value at c.say_faults.ensures)))
 
 pub returns-in-Intercept : goal.returns-in-Intercept
 returns-in-Intercept g c = rw c.in-Intercept.is (replied c.say.result ok_line c.args.session.now _ _ c.say.ensures)
 
 pub returns-in-Enabled : goal.returns-in-Enabled
-returns-in-Enabled g c = rw c.in-Enabled.is c.say_enabled_steps.ensures
+returns-in-Enabled g c =
+    let a = c.args.session.now in
+    let steps = c.enabled_steps.ensures in
+    let line = enabled_line (enabled_with steps.works a.device.wire_free) in
+    rw c.in-Enabled.is
+    (answer_so c.say_enabled.result (Replies line a) (AnswersEnabled a) (λ (b : Session). b) a _ _
+    (λ b text replies. record { works = steps.works; each = steps.each; replies = replies })
+    (replied c.say_enabled.result line a _ _ (rw steps.same at c.say_enabled.ensures)))
 
-pub returns-in-Target : goal.returns-in-Target
-returns-in-Target g c = rw c.in-Target.is c.say_target.ensures
+pub returns-in-Ok : goal.returns-in-Ok
+returns-in-Ok g c =
+    let a = c.args.session.now in
+    let named : c.as_slice.result.now ≡ target_text (target_at_place c.in-Ok.place c.in-Target.address a) = search rules in
+    let tells : TellsAnswer c.say_word-in-Ok.result (g.W.Write.contents c.args.out.now) (g.W.Write.contents c.say_word-in-Ok.new.out)
+    (AnswersTarget (place_in a c.in-Target.address c.in-Target.count) c.in-Target.address a) a =
+    rw (← c.place_of.ensures, c.in-Ok.is) (replied c.say_word-in-Ok.result _ a _ _ (rw named at c.say_word-in-Ok.ensures)) in
+    rw c.in-Target.is tells
+
+pub returns-in-Err : goal.returns-in-Err
+returns-in-Err g c =
+    let a = c.args.session.now in
+    let tells : TellsAnswer c.refuse.result (g.W.Write.contents c.args.out.now) (g.W.Write.contents c.refuse.new.out)
+    (AnswersTarget (place_in a c.in-Target.address c.in-Target.count) c.in-Target.address a) a =
+    rw (← c.place_of.ensures, c.in-Err.is) (replied c.refuse.result _ a _ _ c.refuse.ensures) in
+    rw c.in-Target.is tells
 
 pub returns-in-Rings : goal.returns-in-Rings
 returns-in-Rings g c =

@@ -2,7 +2,6 @@ use Rattle.std.proofs.Common.{◌≡◌, ◌++◌, ◌∙◌, Bool, true, false,
 use Rattle.std.specs.Bool.{beq, then_some}
 use Rattle.adapter_server.specs.Answers.{Replies, Restores, TellsAnswer, line_between}
 use Rattle.adapter_server.specs.Sessions.{copied}
-use Rattle.server_output.specs.Order.{Says}
 use Rattle.server_output.specs.Texts.{line_moved, line_told, ok_line}
 use Rattle.adapter_server.specs.declared.session.Session.{Session}
 use Rattle.adapter_server.specs.declared.snapshot.Server.{Server}
@@ -44,6 +43,5 @@ returns g c =
     (answer_so c.say.result (Replies (line_between a.session next ++ ok_line) server) (Restores (Some saved) a) (λ (s : Server). s) server
     before after (λ b text replies. (copy.address, replies))
     (replied c.say.result (line_between a.session next ++ ok_line) server before after
-    (subst (λ (session : Session). Says c.say.result before after (line_between a.session session ++ ok_line)) copy.same
     (rw (c.restored_text.ensures, c.then_some.ensures, told_change, c.line-before.ensures.line, c.line-level.ensures.line)
-    at c.say.ensures)))))
+    at c.say.ensures))))

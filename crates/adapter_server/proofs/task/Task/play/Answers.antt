@@ -1,15 +1,25 @@
-use Rattle.std.proofs.Common.{◌++◌, ◌∷◌, [], List, ap, refl, subst}
+use Rattle.std.proofs.Common.{◌≡◌, ◌++◌, ◌∷◌, [], List, ap, refl, subst}
 use Rattle.std.specs.Prelude.{ℕ}
 use Rattle.server_output.specs.Texts.{number_line, ok_line, word_line}
 use Rattle.adapter_server.specs.Tasks.{ReadsFrom}
+use Rattle.adapter_server.specs.declared.session.AccessPlace.TheVariants.{Memory, Register}
 use Rattle.played_adapter.proofs.Telling.{tells_so}
 use Rattle.adapter_server.proofs.task.Task.play.Goals as goal
 
 pub read_from-requires : goal.read_from-requires
 read_from-requires g c = (rw c.in-Read.is at c.requires).1
 
-pub write_to-requires : goal.write_to-requires
-write_to-requires g c = rw c.in-Write.is at c.requires
+pub register_value-requires : goal.register_value-requires
+register_value-requires g c =
+    let arm = c.in-Write-Register-default-default in
+    let place : arm.field-0 ≡ Register arm.offset = rw arm.is at arm.field-0-is in
+    rw (arm.is, place) at c.requires
+
+pub serve_store-requires : goal.serve_store-requires
+serve_store-requires g c =
+    let arm = c.in-Write-Memory-default-default in
+    let place : arm.field-0 ≡ Memory = rw arm.is at arm.field-0-is in
+    rw (arm.is, place) at c.requires
 
 pub returns-in-Read-clause-plays : goal.returns-in-Read-clause-plays
 returns-in-Read-clause-plays g c =
@@ -26,9 +36,19 @@ returns-in-Read-clause-plays g c =
       hears = tells.hears;
     })
 
-pub returns-in-Write-clause-plays : goal.returns-in-Write-clause-plays
-returns-in-Write-clause-plays g c =
-    rw c.in-Write.is (tells_so g.O.Observer.heard _ _ _ _ (λ told plays. (refl, plays)) c.write_to.ensures)
+pub returns-in-Write-Register-default-default-clause-plays : goal.returns-in-Write-Register-default-default-clause-plays
+returns-in-Write-Register-default-default-clause-plays g c =
+    let arm = c.in-Write-Register-default-default in
+    let place : arm.field-0 ≡ Register arm.offset = rw arm.is at arm.field-0-is in
+    rw (arm.is, place)
+    (tells_so g.O.Observer.heard _ _ _ _ (λ told plays. (refl, plays)) (rw c.register_value.ensures at c.serve_write.ensures))
+
+pub returns-in-Write-Memory-default-default-clause-plays : goal.returns-in-Write-Memory-default-default-clause-plays
+returns-in-Write-Memory-default-default-clause-plays g c =
+    let arm = c.in-Write-Memory-default-default in
+    let place : arm.field-0 ≡ Memory = rw arm.is at arm.field-0-is in
+    rw (arm.is, place)
+    (tells_so g.O.Observer.heard _ _ _ _ (λ told plays. (refl, plays)) c.serve_store.ensures)
 
 pub returns-in-Step-clause-plays : goal.returns-in-Step-clause-plays
 returns-in-Step-clause-plays g c =
