@@ -1,6 +1,7 @@
 -- The stations of a list of machines and a list of ends of wires: items, changes and events.
 use Rattle.std.proofs.Common.{◌≡◌, ◌<◌, ◌≤◌, zero, suc, ℕ, List, [], ◌∷◌, ◌++◌, Option, Some, None}
-use Rattle.std.proofs.Common.{length, slice_get, slice_set, slice_index_or, refl, sym, ap, subst, ◌∙◌, arith}
+use Rattle.std.proofs.Common.{length, take, slice_get, slice_set, slice_index_or, refl, sym, ap, subst, ◌∙◌, arith}
+use Rattle.std.proofs.lemmas.List.{take-append-le, take_all}
 use Rattle.std.proofs.lemmas.Option.{slice_get-get_or, slice_get_past}
 use Rattle.circular_buffer.proofs.Places.{slice_get-some}
 use Rattle.adapter.specs.State.{IsAdapter}
@@ -75,10 +76,11 @@ set-both (x ∷ ms) [] (suc host) m e = refl
 set-both (x ∷ ms) (y ∷ es) zero m e = refl
 set-both (x ∷ ms) (y ∷ es) (suc host) m e = ap (λ (rest : List StationState). station_of x y ∷ rest) (set-both ms es host m e)
 
-pub set-end_same : (es : List EndState) (host : ℕ) (e : EndState) → slice_get es host ≡ Some e → slice_set es host e ≡ es
-set-end_same [] host e is = refl
-set-end_same (y ∷ es) zero e is = let same : y ≡ e = cc in ap (λ (x : EndState). x ∷ es) (sym same)
-set-end_same (y ∷ es) (suc host) e is = ap (λ (rest : List EndState). y ∷ rest) (set-end_same es host e is)
+-- An item is replaced by itself.
+pub set-itself : {X : Type 0} (xs : List X) (k : ℕ) (x : X) → slice_get xs k ≡ Some x → slice_set xs k x ≡ xs
+set-itself {X} [] k x is = refl
+set-itself {X} (y ∷ xs) zero x is = let same : y ≡ x = cc in ap (λ (item : X). item ∷ xs) (sym same)
+set-itself {X} (y ∷ xs) (suc k) x is = ap (λ (rest : List X). y ∷ rest) (set-itself xs k x is)
 
 -- An event at one machine that puts no frame, if the machine and its end are replaced by those after the event.
 pub host-after : (ms : List MachineState) (es : List EndState) (host : ℕ) (event : Event) (new : MachineState) (end : EndState)
@@ -139,7 +141,7 @@ pub machine-after : {ms : List MachineState} {es : List EndState} {ss : List Sta
     → stations_of (slice_set ms host new) es ≡ stations_after host event ss
 machine-after {ms} {es} {ss} {host} {m} {new} event shown shows is stays none =
     let there = shows.there in
-    ap (stations_of (slice_set ms host new)) (sym (set-end_same es host there.end there.has_end))
+    ap (stations_of (slice_set ms host new)) (sym (set-itself es host there.end there.has_end))
     ∙ host-after ms es host event new there.end there shows.inside
     (is ∙ ap (after_event event) shows.machine)
     (ap (λ (line : List (List ℕ)). let e : EndState = record there.end { backlog = line } in e) (sym (stays there.end.backlog))) none
@@ -156,6 +158,10 @@ pub has-adapter : {inside : Inside} {ss : List StationState} {host : ℕ} {m : M
     → HasEndsOfWires inside → host < length ss → m ≡ slice_index_or inside.machines.items host m → IsAdapter m.world.adapter
     → IsAdapter (world_at ss host).adapter
 has-adapter shown have below value is = subst (λ (w : World). IsAdapter w.adapter) (shows shown have below value).world is
+
+-- A machine that was appended is removed again.
+pub taken-back : (ms : List MachineState) (m : MachineState) (n : ℕ) → n ≡ length ms → take n (ms ++ m ∷ []) ≡ ms
+taken-back ms m n count = take-append-le n ms (m ∷ []) (omega (arith, count)) ∙ take_all n ms (omega (arith, count))
 
 pub append-both : (ms : List MachineState) (es : List EndState) (m : MachineState) (e : EndState) → length es ≡ length ms
     → stations_of (ms ++ m ∷ []) (es ++ e ∷ []) ≡ stations_of ms es ++ station_of m e ∷ []

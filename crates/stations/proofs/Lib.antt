@@ -1,3 +1,4 @@
+pub mod ChangedItems
 pub mod ClosedLogs
 pub mod WireReaders
 pub mod WireEnds

@@ -1,23 +1,33 @@
 -- `HaveLogs` for more logs, and for a new end of a wire.
-use Rattle.std.proofs.Common.{◌≡◌, ◌+◌, ◌⊎◌, ◌↔◌, zero, suc, ℕ, List, Option, Some, None, [], ◌∷◌, ◌++◌, length, drop}
+use Rattle.std.proofs.Common.{◌≡◌, ◌+◌, ◌<◌, ◌⊎◌, ◌↔◌, zero, suc, ℕ, List, Option, Some, None, [], ◌∷◌, ◌++◌, length, drop}
 use Rattle.std.proofs.Common.{option_map, slice_get, slice_index_or, inl, inr, refl, sym, ap, ◌∙◌, subst, arith, length-append}
 use Rattle.std.specs.Prelude.{Err, Ok, OnErr, Result}
 use Rattle.std.proofs.lemmas.List.{get_or_default}
 use Rattle.std.proofs.lemmas.Option.{same_Some, slice_get_within}
 use Rattle.std.proofs.Math.ListN.{drop_of_length-le}
 use Rattle.stations.specs.Ends.{EndState}
-use Rattle.stations.specs.LogReaders.{IsLogFor, KeepsLogs}
+use Rattle.stations.specs.LogReaders.{IsLogFor, KeepsLogs, end_at}
 use Rattle.stations.specs.WireLogs.{LogEntry, frames_of_others}
 use Rattle.stations.specs.WiresView.{HaveLogs, ReadsLog, end_of, ends_from, log_of}
 use Rattle.stations.specs.declared.wires.End.{End}
 use Rattle.stations.proofs.Places.{same-places}
 use Rattle.stations.proofs.WireChanges.{line_at, still-logs}
 use Rattle.stations.proofs.WireEnds.{get-end, log-more}
-use Rattle.stations.proofs.WireReaders.{is-end_at}
+use Rattle.stations.proofs.WireReaders.{has-end_at, is-end_at}
 
 pub on_err : {T E : Type 0} (result : Result T E) (P : Type 0) → P → OnErr result P
 on_err (Ok value) P holds = tt
 on_err (Err error) P holds = holds
+
+-- Each end reads a log that exists, and two ends are ends of one wire exactly if they read one log.
+pub logs-there : {logs : List (List LogEntry)} {es : List End} → HaveLogs logs es → (k : ℕ) → k < length es
+    → (end_at es k).log < length logs
+logs-there {es = es} have k below = have.there k (end_at es k) (has-end_at es k below)
+
+pub one-log : {logs : List (List LogEntry)} {es : List End} → HaveLogs logs es → (j k : ℕ) → j < length es → k < length es
+    → (end_at es j).wire ≡ (end_at es k).wire ↔ ((end_at es j).log ≡ (end_at es k).log)
+one-log {es = es} have j k one two =
+    have.one j k (end_at es j) (end_at es k) (has-end_at es j one) (has-end_at es k two)
 
 -- More logs than before
 module _ (logs more : List (List LogEntry)) (es : List End) (have : HaveLogs logs es) where

@@ -3,6 +3,7 @@ use Rattle.std.proofs.Common.{◌≡◌, ◌≢◌, ◌<◌, ◌≤◌, ◌+◌,
 use Rattle.std.proofs.Common.{IsNone, IsTrue, ℕ, Bool, true, false, List, Option, Some, length, slice_get}
 use Rattle.std.proofs.Common.{slice_set}
 use Rattle.std.proofs.Common.{option_map, refl, sym, ap, subst, ◌∙◌}
+use Rattle.circular_buffer.proofs.Places.{slice_get-some}
 use Rattle.rx_engine.specs.declared.arrival.Fate.{Fate}
 use Rattle.registers.specs.Eerd.{is_pending}
 use Rattle.registers.specs.Mdic.{has_work}
@@ -20,7 +21,8 @@ use Rattle.bus.specs.declared.event.Event.TheVariants.{Arrives, Steps}
 use Rattle.stations.specs.AtomicSteps.{At, FindsNothing, Idles, IsDelivered, OccursAt, PlaysNoted, PlaysTick, SuitsWire, Watched}
 use Rattle.stations.specs.ToldTicks.{tick_told}
 use Rattle.stations.specs.declared.observer.Observer.{Ghosts as OfObserver}
-use Rattle.stations.specs.Stations.{StationState, WireHasRoom, backlog_of, station_after, wire_of, with_frames, world_of}
+use Rattle.stations.specs.Stations.{StationState, WireHasRoom, backlog_of, station_after, stations_after}
+use Rattle.stations.specs.Stations.{wire_of, with_frames, world_at, world_of}
 use Rattle.adapter.specs.declared.outcome.Outcome.TheVariants.{Delivered, Nothing, WireFull}
 use Rattle.stations.specs.declared.tick.Tick.{Tick}
 use Rattle.stations.specs.declared.tick.Tick.TheVariants.{Deliver, Step}
@@ -111,6 +113,37 @@ pub noted : {O : Type 0} {g : OfObserver O} {tick : Tick} {outcome : FrameOutcom
     → g.room_left old.observer ≤ g.room_left new.observer + 1 → PlaysNoted g tick n old new
 noted {outcome = outcome} plays heard room = record { outcome = outcome; plays = plays; heard = heard; room = room }
 
+-- A step that isn't TxPut, of a host that exists, and the observer is told its outcome.
+pub noted-step : {O : Type 0} {g : OfObserver O} {tick : Tick} {host n : ℕ} {kind : StepKind} {old new : Watched O}
+    (outcome : Outcome (Unit {0})) → tick ≡ Step host kind → host < length old.stations → kind ≢ TxPut
+    → Occurs (Steps kind true (framed outcome (world_at old.stations host).adapter)) (world_at old.stations host)
+    → new.stations ≡ stations_after host (Steps kind true (framed outcome (world_at old.stations host).adapter)) old.stations
+    → g.heard old.observer new.observer (tick_told tick n (with_frame [] outcome) ∷ [])
+    → g.room_left old.observer ≤ g.room_left new.observer + 1 → PlaysNoted g tick n old new
+noted-step {g = g} {tick} {host} {n} {kind} {old} {new} outcome is below other occurs leaves heard room =
+    let world = world_at old.stations host in
+    let answer = framed outcome world.adapter in
+    let station = slice_get-some old.stations host below in
+    let same = no-frame kind true world.memory world.adapter outcome (oldest_queued world.adapter.transmitter.buffer) [] other occurs.1 in
+    record {
+      outcome = answer;
+      plays = record {
+        step = At host (Steps kind true answer);
+        tick_is = sym is;
+        outcome_is = refl;
+        no_access = tt;
+        happens = record {
+          wire = station.0.wire;
+          on_wire = ap wire_of station.1;
+          occurs = occurs;
+          suits_wire = λ put. absurd (other put);
+        };
+        leaves = leaves;
+      };
+      heard = subst (λ (o : FrameOutcome). g.heard old.observer new.observer (tick_told tick n o ∷ [])) (sym same) heard;
+      room = room;
+    }
+
 pub plays-delivery : (ss : List StationState) (host : ℕ) (s new : StationState) (frame : List ℕ) (fate : Fate) → host < length ss
     → slice_get ss host ≡ Some s → IsDelivered s frame fate new → PlaysTick ss (Deliver host) (Delivered frame fate) (slice_set ss host new)
 plays-delivery ss host s new frame fate below there is = record {
@@ -145,16 +178,6 @@ plays-step ss final host s new kind free answer below there finds adapter answer
           each k
           ∙ ap (λ (frames : List (List ℕ)). option_map (with_frames host s.wire frames k) (slice_get (slice_set ss host new) k)) put);
     }
-
-pub plays-stays : (ss : List StationState) (host : ℕ) (s new : StationState) (kind : StepKind) (answer : FrameOutcome) → host < length ss
-    → slice_get ss host ≡ Some s → kind ≢ TxPut → IsAdapter s.world.adapter → put_by answer ≡ []
-    → Answers kind true s.world.memory s.world.adapter answer → new ≡ station_after (Steps kind true answer) s
-    → PlaysTick ss (Step host kind) answer (slice_set ss host new)
-plays-stays ss host s new kind answer below there other adapter none answers is =
-    plays-step ss (slice_set ss host new) host s new kind true answer below there
-    (λ same. absurd (other same)) adapter answers is
-    (λ k. sym (ap (λ (put : List (List ℕ)). option_map (with_frames host s.wire put k) (slice_get (slice_set ss host new) k)) none
-    ∙ none-anywhere host s.wire k (slice_get (slice_set ss host new) k)))
 
 plays-no_put : (ss : List StationState) (host : ℕ) (s : StationState) (free : Bool) (answer : FrameOutcome) → host < length ss
     → slice_get ss host ≡ Some s → IsTrue free ↔ WireHasRoom ss host s.wire → IsAdapter s.world.adapter

@@ -9,12 +9,11 @@ use Rattle.stations.specs.StationsView.{HasEndsOfWires, station_of, stations_in,
 use Rattle.stations.specs.declared.stations.Stations.TheInside.{Inside}
 use Rattle.stations.specs.Stations.{StationState, WireHasRoom, with_frames}
 use Rattle.rx_engine.specs.declared.arrival.Fate.{Fate}
-use Rattle.adapter.specs.Outcomes.{FrameOutcome, framed, oldest_queued, put_by}
+use Rattle.adapter.specs.Outcomes.{FrameOutcome, framed, oldest_queued}
 use Rattle.adapter.specs.State.{IsAdapter}
 use Rattle.adapter.specs.Steps.{Answers}
 use Rattle.adapter.specs.declared.outcome.Outcome.{Outcome}
 use Rattle.adapter.specs.declared.outcome.Outcome.TheVariants.{Delivered, Nothing, Put, WireFull}
-use Rattle.adapter.specs.declared.step.StepKind.{StepKind}
 use Rattle.adapter.specs.declared.step.StepKind.TheVariants.{TxPut}
 use Rattle.bus.specs.Machines.{after_event}
 use Rattle.bus.specs.Trails.{Occurs}
@@ -23,8 +22,8 @@ use Rattle.stations.specs.AtomicSteps.{PlaysTick}
 use Rattle.stations.specs.Stations.{backlog_at, backlog_of}
 use Rattle.stations.specs.declared.tick.Tick.TheVariants.{Deliver, Step}
 use Rattle.std.proofs.Common.{IsTrue, drop}
-use Rattle.stations.proofs.Hosts.{IsThere, Shows, both, get-both, is-there, set-both, set-end_same, shows}
-use Rattle.stations.proofs.PlayedTicks.{plays-delivery, plays-no_frame, plays-nothing, plays-stays, plays-step, plays-wire_full}
+use Rattle.stations.proofs.Hosts.{IsThere, Shows, both, get-both, is-there, set-both, set-itself, shows}
+use Rattle.stations.proofs.PlayedTicks.{plays-delivery, plays-no_frame, plays-nothing, plays-step, plays-wire_full}
 use Rattle.stations.proofs.PlayedTicks.{puts-oldest}
 
 pub same-length : {X Y : Type 0} (change : ℕ → X → Y) (xs : List X) (ys : List Y)
@@ -83,7 +82,7 @@ spread-both ms es es' host wire frames new there each k =
     ∙ ap (option_map (with_frames host wire frames k))
     (sym (get-both (slice_set ms host new) es k)
     ∙ ap (λ (list : List StationState). slice_get list k)
-    (ap (stations_of (slice_set ms host new)) (sym (set-end_same es host there.end there.has_end))
+    (ap (stations_of (slice_set ms host new)) (sym (set-itself es host there.end there.has_end))
     ∙ set-both ms es host new there.end))
 
 -- Ticks of a network
@@ -91,21 +90,7 @@ spread-both ms es es' host wire frames new there each k =
 final-is : (ms : List MachineState) (es : List EndState) (host : ℕ) (new : MachineState) (there : IsThere ms es host)
     → stations_of (slice_set ms host new) es ≡ slice_set (stations_of ms es) host (station_of new there.end)
 final-is ms es host new there =
-    ap (stations_of (slice_set ms host new)) (sym (set-end_same es host there.end there.has_end)) ∙ set-both ms es host new there.end
-
-pub machine-steps : (ms : List MachineState) (es : List EndState) (ss : List StationState) (host : ℕ) (m new : MachineState)
-    (kind : StepKind) (answer : FrameOutcome) → stations_of ms es ≡ ss → Shows ms es ss host m → kind ≢ TxPut
-    → IsAdapter m.world.adapter → put_by answer ≡ [] → Answers kind true m.world.memory m.world.adapter answer
-    → new ≡ after_event (Steps kind true answer) m → PlaysTick ss (Step host kind) answer (stations_of (slice_set ms host new) es)
-machine-steps ms es ss host m new kind answer shown seen other adapter none answers is =
-    let there = seen.there in
-    let all = stations_of ms es in
-    subst (λ (list : List StationState). PlaysTick list (Step host kind) answer (stations_of (slice_set ms host new) es)) shown
-    (subst (λ (final : List StationState). PlaysTick all (Step host kind) answer final) (sym (final-is ms es host new there))
-    (plays-stays all host (station_of there.machine there.end) (station_of new there.end) kind answer seen.inside there.is other
-    (subst (λ (x : MachineState). IsAdapter x.world.adapter) seen.machine adapter) none
-    (subst (λ (x : MachineState). Answers kind true x.world.memory x.world.adapter answer) seen.machine answers)
-    (ap (λ (x : MachineState). station_of x there.end) (is ∙ ap (after_event (Steps kind true answer)) seen.machine))))
+    ap (stations_of (slice_set ms host new)) (sym (set-itself es host there.end there.has_end)) ∙ set-both ms es host new there.end
 
 -- The host `host` exists, its machine is `m`, and `free` states whether its wire is free.
 pub record FindsWire (ms : List MachineState) (es : List EndState) (ss : List StationState) (host : ℕ) (free : Bool) (m : MachineState)
@@ -115,19 +100,20 @@ pub record FindsWire (ms : List MachineState) (es : List EndState) (ss : List St
   pub finds : IsTrue free ↔ WireHasRoom (stations_of ms es) host seen.there.end.wire
   pub adapter : IsAdapter seen.there.machine.world.adapter
 
-pub finds-wire : {inside : Inside} {ss : List StationState} {host : ℕ} {free : Bool} {m : MachineState} (wire : ℕ) → stations_in inside ≡ ss
+pub finds-wire : {inside : Inside} {ss : List StationState} {host : ℕ} {free : Bool} {m : MachineState} → stations_in inside ≡ ss
     → HasEndsOfWires inside → host < length ss → m ≡ slice_index_or inside.machines.items host m
-    → ((end : EndState) → slice_get inside.wires host ≡ Some end → wire ≡ end.wire)
-    → IsTrue free ↔ HaveRoom inside.wires host wire → IsAdapter m.world.adapter
+    → ((end : EndState) → slice_get inside.wires host ≡ Some end → IsTrue free ↔ HaveRoom inside.wires host end.wire)
+    → IsAdapter m.world.adapter
     → FindsWire inside.machines.items inside.wires ss host free m
-finds-wire {inside} {ss} {host} {free} {m} wire shown have below value on room adapter =
+finds-wire {inside} shown have below value room adapter =
     let seen = shows shown have below value in
-    let both = room-seen inside.machines.items inside.wires host wire have.ends in
-    let here : IsTrue free ↔ WireHasRoom (stations_in inside) host wire = ((λ yes. both.0 (room.0 yes)), (λ has. room.1 (both.1 has))) in
+    let end = seen.there.end in
+    let both = room-seen inside.machines.items inside.wires _ end.wire have.ends in
+    let free = room end seen.there.has_end in
     record {
       shown = shown;
       seen = seen;
-      finds = subst (λ (w : ℕ). IsTrue free ↔ WireHasRoom (stations_in inside) host w) (on seen.there.end seen.there.has_end) here;
+      finds = ((λ yes. both.0 (free.0 yes)), (λ has. free.1 (both.1 has)));
       adapter = subst (λ (x : MachineState). IsAdapter x.world.adapter) seen.machine adapter;
     }
 

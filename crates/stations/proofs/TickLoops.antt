@@ -1,8 +1,9 @@
 -- The invariants of the loops that play ticks one after the other.
-use Rattle.std.proofs.Common.{◌≡◌, ◌≢◌, ◌≤◌, ◌-◌, ◌++◌, ◌∷◌, [], Bool, false, true, ℕ, List, All, length, map}
+use Rattle.std.proofs.Common.{◌≡◌, ◌≢◌, ◌≤◌, ◌-◌, ◌++◌, ◌∷◌, ◌==◌, [], inl, inr, Bool, false, true, ℕ, List, All, length, map}
 use Rattle.std.proofs.Common.{suc, refl, sym, ap, subst, ◌∙◌}
 use Rattle.std.proofs.Common.{append_assoc}
 use Rattle.std.proofs.Common.{arith, if◌then◌else◌, length-append, not}
+use Rattle.std.proofs.lemmas.Bool.Decides.{eqb_tells}
 use Rattle.std.proofs.lemmas.List.{append-nil, map-append}
 use Rattle.std.proofs.lemmas.List.Elements.{All-append, All-cons}
 use Rattle.bus.proofs.Lists.{all-head, all-none, all-tail}
@@ -175,6 +176,23 @@ group-more composes old mid new ticks rest tick n so_far other one = record {
   plays = plays-join composes so_far.plays (plays-one (not-go tick other) one);
   room = omega (arith, so_far.room, one.room);
 }
+
+-- No tick of the group remains.
+pub group-end : {O : Type 0} {g : OfObserver O} {old mid : Watched O} {ticks rest : List Tick} {n : ℕ}
+    → GroupPlayed g ticks n rest old mid → group_of is_go rest ≡ [] → PlaysTicks g (group_of is_go ticks) n old mid
+group-end {g = g} {old} {mid} {n = n} so_far none =
+    subst (λ (list : List Tick). PlaysTicks g list n old mid)
+    (sym (so_far.split.group ∙ ap (λ (list : List Tick). so_far.front ++ list) none ∙ append-nil so_far.front)) so_far.plays
+
+pub no-ticks : (ticks : List Tick) → length ticks ≡ 0 → ticks ≡ []
+no-ticks [] none = refl
+no-ticks (tick ∷ later) none = absurd (omega (arith, none))
+
+pub empty-ticks : (ticks : List Tick) → true ≡ (length ticks == 0) → ticks ≡ []
+empty-ticks ticks is = elim (eqb_tells (length ticks) 0) [
+  | inl none ↦ no-ticks ticks none.1
+  | inr some ↦ absurd (let bad : true ≡ false = is ∙ some.0 in cc)
+]
 
 pub all-more : {O : Type 0} {g : OfObserver O} {old mid new : Watched O} {ticks rest later : List Tick} {n : ℕ} → ComposesTold g.heard
     → AllPlayed g ticks n rest old mid → PlaysTicks g (group_of is_go rest) n mid new → later ≡ behind_group is_go rest

@@ -14,7 +14,7 @@ use Rattle.stations.specs.WireLogs.{LogEntry, entry_frame, frames_of_others}
 use Rattle.stations.specs.WiresView.{HaveLogs, ReadsLog, end_of, ends_from, log_of, unread}
 use Rattle.stations.specs.declared.wires.End.{End}
 use Rattle.stations.proofs.ClosedLogs.{frames-appended}
-use Rattle.stations.proofs.Hosts.{set-end_same}
+use Rattle.stations.proofs.Hosts.{set-itself}
 use Rattle.stations.proofs.Places.{same-places}
 use Rattle.stations.proofs.WireEnds.{Found, found-log, get-end, log-set_other, log-set_same, room-shown, shows-end}
 use Rattle.stations.proofs.WireReaders.{is-end_at}
@@ -93,17 +93,17 @@ module _ (logs : List (List LogEntry)) (es : List End) (host : ℕ) (e : End) (h
 
 -- A put
 
-waits-yes : (log sender k : ℕ) (end : End) → k ≢ sender → end.log ≡ log
+pub waits-yes : (log sender k : ℕ) (end : End) → k ≢ sender → end.log ≡ log
     → with_waiting log sender k end ≡ record end { waiting = end.waiting + 1 }
 waits-yes log sender k end other on =
     ap (λ (b : Bool). if not b && (end.log == log) then record end { waiting = end.waiting + 1 } else end) (differ k sender other)
     ∙ ap (λ (b : Bool). if b then record end { waiting = end.waiting + 1 } else end) (equal end.log log on)
 
-waits-own : (log sender k : ℕ) (end : End) → k ≡ sender → with_waiting log sender k end ≡ end
+pub waits-own : (log sender k : ℕ) (end : End) → k ≡ sender → with_waiting log sender k end ≡ end
 waits-own log sender k end same =
     ap (λ (b : Bool). if not b && (end.log == log) then record end { waiting = end.waiting + 1 } else end) (equal k sender same)
 
-waits-off : (log sender k : ℕ) (end : End) → end.log ≢ log → with_waiting log sender k end ≡ end
+pub waits-off : (log sender k : ℕ) (end : End) → end.log ≢ log → with_waiting log sender k end ≡ end
 waits-off log sender k end off = by_case (not (k == sender))
   where
     by_case : (b : Bool) → (if b && (end.log == log) then record end { waiting = end.waiting + 1 } else end) ≡ end
@@ -422,5 +422,5 @@ has-read {logs} {es} {ss} {host} {place} {first} {e} {log} was found is below ol
 pub stays-empty : (ss : List EndState) (host : ℕ) (end : EndState) → slice_get ss host ≡ Some end → end.backlog ≡ []
     → ss ≡ slice_set ss host (record end { backlog = drop 1 end.backlog })
 stays-empty ss host end is none =
-    sym (set-end_same ss host end is)
+    sym (set-itself ss host end is)
     ∙ ap (λ (l : List (List ℕ)). slice_set ss host (record end { backlog = l })) (none ∙ ap (drop 1) (sym none))

@@ -1,12 +1,12 @@
 -- The states of the ends of wires, by the logs and by the ends' cursors.
-use Rattle.std.proofs.Common.{◌≡◌, ◌≢◌, ◌<◌, ◌+◌, ◌-◌, ◌↔◌, zero, suc, ℕ, List, Some, [], ◌∷◌, ◌++◌, length, length-append, drop, take}
-use Rattle.std.proofs.Common.{option_map, slice_get, slice_set, slice_index_or, refl, sym, ap, ◌∙◌, arith}
+use Rattle.std.proofs.Common.{◌≡◌, ◌≢◌, ◌<◌, ◌+◌, ◌-◌, ◌↔◌, zero, suc, Bool, IsTrue, ℕ, List, Some, [], ◌∷◌, ◌++◌, length, length-append}
+use Rattle.std.proofs.Common.{drop, take, option_map, slice_get, slice_set, slice_index_or, refl, sym, ap, subst, ◌∙◌, arith}
 use Rattle.std.proofs.lemmas.List.{get_or-set_other, get_or-set_same, get_or_append_left, get_or_default, take-append-drop}
 use Rattle.std.proofs.lemmas.Option.{same_Some, slice_get-get_or, slice_get_within}
 use Rattle.std.proofs.Math.Seq.{drop-append-add}
 use Rattle.stations.specs.Ends.{EndState, HaveRoom}
 use Rattle.stations.specs.LogReaders.{OthersHaveRoom, end_at}
-use Rattle.stations.specs.WireLogs.{LogEntry, frames_of_others, last_of_others}
+use Rattle.stations.specs.WireLogs.{LogEntry, entry_frame, frames_of_others, last_of_others}
 use Rattle.stations.specs.WiresView.{HaveLogs, ReadsLog, end_of, ends_from, log_of}
 use Rattle.stations.specs.declared.wires.End.{End}
 use Rattle.stations.proofs.ClosedLogs.{frames-append}
@@ -103,6 +103,23 @@ module _ (logs : List (List LogEntry)) (es : List End) (ss : List EndState) (sho
           let counts = (reads k e has).counts in
           let free = room k (end_of logs k e) is other on in
           omega (arith, free, counts)
+
+-- Whether the other ends of an end's wire have room, as counted by the code and in contracts.
+pub has-room : {logs : List (List LogEntry)} {es all : List End} {ss : List EndState} {sender : ℕ} {e : End} {free : Bool}
+    → Found logs es ss sender e → all ≡ es → IsTrue free ↔ OthersHaveRoom (length all) sender e.wire all
+    → (end : EndState) → slice_get ss sender ≡ Some end → IsTrue free ↔ HaveRoom ss sender end.wire
+has-room {logs} {es} {all} {ss} {sender} {e} {free} found same tells end is =
+    let told = subst (λ (ends : List End). IsTrue free ↔ OthersHaveRoom (length ends) sender e.wire ends) same tells in
+    let shown = room-shown logs es ss found.shown sender e.wire found.have.reads in
+    subst (λ (wire : ℕ). IsTrue free ↔ HaveRoom ss sender wire) (ap (λ (s : EndState). s.wire) (shows-end found is))
+    ((λ yes. shown.0 (told.0 yes)), (λ room. told.1 (shown.1 room)))
+
+-- The frame of the entry at a place.
+pub entry-read : {log all : List LogEntry} {place : ℕ} (other : LogEntry) → all ≡ log → place < length log
+    → entry_frame place log ≡ (slice_index_or all place other).1
+entry-read {log} {place = place} other same below =
+    ap (λ (e : LogEntry). e.1)
+    (sym (ap (λ (entries : List LogEntry). slice_index_or entries place other) same ∙ get_or_default log place other (0, []) below))
 
 pub waits-last : (log : List LogEntry) (k cursor : ℕ) → last_of_others k (length (frames_of_others k (drop cursor log))) log
     ≡ frames_of_others k (drop cursor log)

@@ -16,12 +16,6 @@ pub record IsReader (log : ℕ) (ends : List End) (k : ℕ) : Type 0 where
   pub there : k < length ends
   pub reads : (end_at ends k).log ≡ log
 
--- An end of the wire `wire` reads the log `log`.
-pub record IsReaderOn (wire log : ℕ) (ends : List End) : Type 0 where
-  pub k : ℕ
-  pub is : IsReader log ends k
-  pub on : (end_at ends k).wire ≡ wire
-
 -- Each of the first `number` ends that is an end of the wire, except the sender's, has room for one more frame.
 abbrev pub OthersHaveRoom : (number sender wire : ℕ) → List End → Type 0
 OthersHaveRoom number sender wire ends =

@@ -37,7 +37,7 @@ impl<'a, 't, O: Observer> Bus for LentBus<'a, 't, O> {
     // `size` isn't an access. Each other call is one access: `prepare` plays the ticks that come before this access,
     // and counts the access.
     fn size(&self) -> u64 {
-        self.stations.size(self.host)
+        self.stations.machine(self.host).size()
     }
 
     fn read(&mut self, offset: u32) -> u32 {
@@ -52,7 +52,7 @@ impl<'a, 't, O: Observer> Bus for LentBus<'a, 't, O> {
 
     fn load(&mut self, address: u64, into: &mut [u8]) {
         self.prepare();
-        self.stations.load(self.host, address, into);
+        self.stations.machine(self.host).load(address, into);
     }
 
     fn store(&mut self, address: u64, bytes: &[u8]) {

@@ -69,14 +69,6 @@ impl<'a, 't, O: Observer> LentBus<'a, 't, O> {
         if self.ticks.is_empty() {
             return;
         }
-        self.finish_ticks();
-    }
-
-    /// Does the same as [`finish`](LentBus::finish), which calls this function only if ticks remain.
-    #[inline(never)]
-    fn finish_ticks(&mut self)
-        ensures { Finished self.old self.new }
-    {
         self.stations
             .play_without_go(self.ticks, self.accesses, self.observer);
         self.ticks = &[];

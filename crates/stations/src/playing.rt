@@ -14,9 +14,9 @@ use crate::tick::Tick;
 use adapter::{Outcome, StepKind};
 
 impl Stations {
-    /// Plays a tick: a step, a delivery, or `Go`, which changes no station and has the outcome `Nothing`. The observer
-    /// is told the tick's outcome, with `accesses`, the number of accesses that the call made before the tick. The
-    /// observer must have room for one more outcome.
+    /// Plays a tick: a step, a delivery, or `Go`, which changes no station. `Go`, and a tick of a host that doesn't
+    /// exist, have the outcome `Nothing`. The observer is told the tick's outcome, with `accesses`, the number of
+    /// accesses that the call made before the tick. The observer must have room for one more outcome.
     #[inline(always)]
     pub fn play<O: Observer>(&mut self, tick: Tick, accesses: u64, observer: &mut O)
         requires room { 0 < O.room_left observer.old }
@@ -25,36 +25,13 @@ impl Stations {
     {
         match tick {
             Tick::Go => observer.note(tick, accesses, Outcome::Nothing, &[]),
-            Tick::Step(host, kind) => self.play_step(host, kind, accesses, observer),
             Tick::Deliver(host) => self.deliver(host, accesses, observer),
-        }
-    }
-
-    /// Plays a step of a host's adapter. If there is no such host, the outcome is `Nothing`. Other stations change only
-    /// if the step puts a frame (TxPut): the frame then waits at the other ends of the wire. The observer must have
-    /// room for one more outcome.
-    #[inline(always)]
-    fn play_step<O: Observer>(
-        &mut self,
-        host: usize,
-        kind: StepKind,
-        accesses: u64,
-        observer: &mut O,
-    )
-        requires room { 0 < O.room_left observer.old }
-        ensures { PlaysNoted O.Observer (tick.Step host kind) accesses (watched self.old observer.old)
-            (watched self.new observer.new) }
-    {
-        let tick = Tick::Step(host, kind);
-        if host >= self.machines.len() {
-            observer.note(tick, accesses, Outcome::Nothing, &[]);
-            return;
-        }
-        match kind {
-            StepKind::TxPut => self.put(host, accesses, observer),
-            _ => {
-                // Whether the wire is free matters only for TxPut.
-                let outcome = self.machines[host].step(kind, true);
+            Tick::Step(host, _) if host >= self.len() => {
+                observer.note(tick, accesses, Outcome::Nothing, &[]);
+            }
+            Tick::Step(host, StepKind::TxPut) => self.put(host, accesses, observer),
+            Tick::Step(host, kind) => {
+                let outcome = self.step(host, kind);
                 observer.note(tick, accesses, outcome, &[]);
             }
         }
@@ -71,8 +48,7 @@ impl Stations {
             (watched self.new observer.new) }
     {
         let tick = Tick::Step(host, StepKind::TxPut);
-        let wire = self.wires.wire(host);
-        let wire_free = self.wires.have_room(host, wire);
+        let wire_free = self.wires.have_room(host);
         let Some(frame) = self.machines[host].to_put() else {
             observer.note(tick, accesses, Outcome::Nothing, &[]);
             return;

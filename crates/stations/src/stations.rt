@@ -1,7 +1,5 @@
 // The stations of a network.
 
-ghost use Rattle.std.specs.Prelude.{◌≡◌, ◌<◌, ◌∷◌, ◌++◌, [], IfOk, OnErr, length, vec_capacity};
-
 use crate::wire_log::LOG_ENTRIES;
 use crate::wires::Wires;
 use adapter::{FrameCounts, Outcome, StepKind};
@@ -36,35 +34,6 @@ impl Model for Stations {
     ghost invariant = { HasEndsOfWires };
 }
 
-/// Makes room for one more machine, and appends an end of this wire.
-///
-/// # Errors
-///
-/// Returns an error only if an allocation fails. Then no machine and no end has been added.
-fn make_place(
-    machines: &mut Vec<Machine>,
-    wires: &mut Wires,
-    alloc: Global,
-    wire: usize,
-) -> Result<(), AllocError>
-    ensures room { IfOk result (λ done. length machines.new.items < vec_capacity machines.new) }
-    ensures machines { machines.new.items ≡ machines.old.items }
-    ensures connected { IfOk result (λ done. wires.new ≡ wires.old ++ record { wire = wire; backlog = [] } ∷ []) }
-    ensures err { OnErr result (wires.new ≡ wires.old) }
-{
-    machines.reserve(1)?;
-    wires.connect(alloc, wire)
-}
-
-/// Appends a machine to a list that has room for it.
-fn append(machines: &mut Vec<Machine>, machine: Machine)
-    requires room { length machines.old.items < vec_capacity machines.old }
-    ensures { machines.new.items ≡ machines.old.items ++ machine ∷ [] }
-{
-    // There is room, so `push` returns no error.
-    let _ = machines.push(machine);
-}
-
 impl Stations {
     ghost use Rattle.std.specs.Prelude.{◌≡◌, ◌≢◌, ◌<◌, ◌↔◌, ◌∷◌, ◌++◌, ◌+◌, ◌≤◌, [], length, true};
     ghost use Rattle.std.specs.Prelude.{IfOk, IsTrue, OnErr, vec_capacity};
@@ -77,7 +46,7 @@ impl Stations {
     ghost use Rattle.bus.specs.Trails.{Occurs};
     ghost use Rattle.bus.specs.declared.event.Access.TheVariants.{Reads, Stores, Writes};
     ghost use Rattle.bus.specs.declared.event.Event.TheVariants.{Accesses, Steps};
-    ghost use Rattle.dma_memory.specs.HostMemory.{bytes_at, LiesIn};
+    ghost use Rattle.dma_memory.specs.HostMemory.{LiesIn};
     ghost use Rattle.registers.specs.Bits.{Meet};
     ghost use Rattle.stations.specs.Stations.{backlog_at, stations_after, world_at};
     ghost use Rattle.stations.specs.WireLogs.{last_of_others};
@@ -110,13 +79,18 @@ impl Stations {
         } ∷ []) }
         ensures err { OnErr result (self.new ≡ self.old) }
     {
-        // `make_place` also makes room for the machine, so no error can follow after the end was appended.
-        make_place(&mut self.machines, &mut self.wires, alloc, wire)?;
-        append(&mut self.machines, machine);
+        let count = self.machines.len();
+        self.machines.push(machine)?;
+        if let Err(error) = self.wires.connect(alloc, wire) {
+            // A machine without an end of a wire isn't a station.
+            self.machines.truncate(count);
+            return Err(error);
+        }
         Ok(())
     }
 
     /// Returns the number of stations.
+    #[inline(always)]
     pub fn len(&self) -> usize
         ensures { result ≡ length self.now }
     {
@@ -124,7 +98,8 @@ impl Stations {
     }
 
     /// Returns a host's machine.
-    fn machine(&self, host: usize) -> &Machine
+    #[inline(always)]
+    pub(crate) fn machine(&self, host: usize) -> &Machine
         requires there { host < length self.now }
         ensures { result.now.world ≡ world_at self.now host }
     {
@@ -173,6 +148,7 @@ impl Stations {
     /// step mustn't be TxPut (`stays`).
     /// - `occurs`: the adapter can take this step with this outcome. `true` stands for a wire with room, which matters
     ///   only for TxPut.
+    #[inline(always)]
     pub fn step(&mut self, host: usize, kind: StepKind) -> Outcome<()>
         requires there { host < length self.old }
         requires stays { kind ≢ TxPut }
@@ -229,18 +205,6 @@ impl Stations {
         self.machines[host].write(offset, value);
     }
 
-    /// Fills `into` with bytes of a host's memory, the first of which is at `address`. All these bytes must be in
-    /// memory.
-    pub(crate) fn load(&self, host: usize, address: u64, into: &mut [u8])
-        requires there { host < length self.now }
-        requires lies { LiesIn (world_at self.now host).memory address (length into.old) }
-        ensures loaded { into.new ≡ bytes_at (world_at self.now host).memory address (length into.old) }
-        // The invariant of the host's adapter, for the proofs of callers.
-        ensures adapter { IsAdapter (world_at self.now host).adapter }
-    {
-        self.machine(host).load(address, into);
-    }
-
     /// Stores bytes in a host's memory, the first at `address`. The places of all bytes must be in memory. No other
     /// station and no wire changes.
     pub(crate) fn store(&mut self, host: usize, address: u64, bytes: &[u8])
@@ -251,13 +215,5 @@ impl Stations {
         ensures adapter { IsAdapter (world_at self.old host).adapter }
     {
         self.machines[host].store(address, bytes);
-    }
-
-    /// Returns the number of bytes of a host's memory.
-    pub(crate) fn size(&self, host: usize) -> u64
-        requires there { host < length self.now }
-        ensures { result ≡ length (world_at self.now host).memory }
-    {
-        self.machine(host).size()
     }
 }

@@ -1,7 +1,7 @@
 // The log of a wire.
 
-ghost use Rattle.std.specs.Prelude.{◌≡◌, ◌+◌, ◌<◌, ◌≤◌, ◌↔◌, ◌∷◌, ◌++◌, [], IfOk, IfSome, IsNone, Some};
-ghost use Rattle.std.specs.Prelude.{drop, length, slice_get};
+ghost use Rattle.std.specs.Prelude.{◌≡◌, ◌+◌, ◌<◌, ◌≤◌, ◌↔◌, ◌∷◌, ◌++◌, [], IfOk, IfSome, IsNone};
+ghost use Rattle.std.specs.Prelude.{drop, length};
 ghost use Rattle.descriptors.specs.Frames.{longest_frame};
 ghost use Rattle.stations.specs.WireLogs.{closed_up, entry_frame, frames_of_others, log_entries};
 
@@ -92,27 +92,6 @@ impl WireLog {
             }
         }
         None
-    }
-
-    /// Returns the frame of the entry at this place, which must exist.
-    pub(crate) fn frame(&self, place: usize) -> &[u8]
-        requires there { place < length self.now }
-        ensures value { result.now ≡ entry_frame place self.now }
-        ensures fits { length result.now ≤ longest_frame }
-    {
-        self.entries[place].1.as_slice()
-    }
-
-    /// Returns the frame of the first entry, at `from` or later, whose sender isn't `reader`, or `None` if there is no
-    /// such entry.
-    pub(crate) fn front(&self, reader: usize, from: usize) -> Option<&[u8]>
-        ensures none { IsNone result ↔ (frames_of_others reader (drop from self.now) ≡ []) }
-        ensures oldest { IfSome result (λ frame. slice_get (frames_of_others reader (drop from self.now)) 0
-            ≡ Some frame.now) }
-        ensures fits { IfSome result (λ frame. length frame.now ≤ longest_frame) }
-    {
-        let place = self.next(reader, from)?;
-        Some(self.frame(place))
     }
 
     /// Drops all entries before `first`, and the entries before `second` that `reader` sent. The remaining entries move

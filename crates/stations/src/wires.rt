@@ -7,9 +7,9 @@ ghost use Rattle.descriptors.specs.Frames.{longest_frame};
 ghost use Rattle.stations.specs.Ends.{EndState, HaveRoom, end_after_put};
 ghost use Rattle.stations.specs.WireLogs.{last_of_others, log_entries};
 ghost use Rattle.std.specs.Prelude.{◌≢◌};
-ghost use Rattle.stations.specs.LogReaders.{IsLeastCursor, IsReader, IsReaderOn, IsSlowest};
+ghost use Rattle.stations.specs.LogReaders.{IsLeastCursor, IsReader, IsSlowest};
 ghost use Rattle.stations.specs.LogReaders.{KeepsLogs, MakesRoom, PutsFrame, ReadIn};
-ghost use Rattle.stations.specs.LogReaders.{IsLogFor, OthersHaveRoom, end_at, moved_cursor, with_waiting};
+ghost use Rattle.stations.specs.LogReaders.{IsLogFor, end_at, moved_cursor};
 ghost use Rattle.stations.specs.declared.wires.End.{End};
 
 use crate::wire_log::{LOG_ENTRIES, WireLog};
@@ -58,19 +58,6 @@ impl Model for Wires {
     ghost invariant = { λ inside. HaveLogs inside.logs.items inside.ends.items };
 }
 
-/// Returns the index of the log that the ends of a wire read, or `None` if the wire has no ends.
-fn log_of(ends: &[End], wire: usize) -> Option<usize>
-    ensures none { IsNone result → (k : ℕ) → k < length ends.now → (end_at ends.now k).wire ≢ wire }
-    ensures some { IfSome result (λ log. IsReaderOn wire log ends.now) }
-{
-    for end in ends.iter() {
-        if end.wire == wire {
-            return Some(end.log);
-        }
-    }
-    None
-}
-
 /// Returns the index of the log for the next end of a wire. This is the log that the wire's ends read, or a new log if
 /// the wire has no ends. Each end must read a log of `logs`. Two ends must read the same log exactly if they are on the
 /// same wire.
@@ -90,24 +77,14 @@ fn log_for(
     ensures ok { IfOk result (λ log. IsLogFor wire ends.now logs.new.items log) }
     ensures kept { KeepsLogs logs.old.items logs.new.items }
 {
-    if let Some(log) = log_of(ends, wire) {
-        return Ok(log);
+    for end in ends.iter() {
+        if end.wire == wire {
+            return Ok(end.log);
+        }
     }
     let log = logs.len();
     logs.push(WireLog::new(alloc)?)?;
     Ok(log)
-}
-
-/// Returns whether each end of a wire, except the sender's, has room for one more frame.
-fn others_have_room(ends: &[End], sender: usize, wire: usize) -> bool
-    ensures { IsTrue result ↔ OthersHaveRoom (length ends.now) sender wire ends.now }
-{
-    for (number, end) in ends.iter().enumerate() {
-        if number != sender && end.wire == wire && end.waiting >= END_FRAMES {
-            return false;
-        }
-    }
-    true
 }
 
 /// Returns the number of an end with the least cursor among the ends that read a log. The sender's end must read this
@@ -172,19 +149,6 @@ fn make_room(ends: &mut [End], wire_log: &mut WireLog, log: usize, sender: usize
     move_cursors(ends, log, entries - wire_log.len());
 }
 
-/// Counts one more waiting frame at each end that reads a log, except the sender's. Each of these ends must have room.
-fn count_waiting(ends: &mut [End], log: usize, sender: usize)
-    requires room { (k : ℕ) (end : End) → slice_get ends.old k ≡ Some end → k ≢ sender → end.log ≡ log
-        → end.waiting < END_FRAMES }
-    ensures { (k : ℕ) → slice_get ends.new k ≡ option_map (with_waiting log sender k) (slice_get ends.old k) }
-{
-    for number in 0..ends.len() {
-        if number != sender && ends[number].log == log {
-            ends[number].waiting += 1;
-        }
-    }
-}
-
 /// Appends a sender's frame to a log, which the sender's end must read. The frame then waits at each other end that
 /// reads the log. Each of these ends must have room. The ends must read the log as `make_room` requires.
 fn put_frame(ends: &mut [End], wire_log: &mut WireLog, log: usize, sender: usize, frame: &[u8])
@@ -197,7 +161,12 @@ fn put_frame(ends: &mut [End], wire_log: &mut WireLog, log: usize, sender: usize
 {
     make_room(ends, wire_log, log, sender);
     wire_log.append(sender, frame);
-    count_waiting(ends, log, sender);
+    // The frame waits at each other end that reads the log.
+    for number in 0..ends.len() {
+        if number != sender && ends[number].log == log {
+            ends[number].waiting += 1;
+        }
+    }
 }
 
 impl Wires {
@@ -234,19 +203,20 @@ impl Wires {
         Ok(())
     }
 
-    /// Returns the number of a host's wire.
-    pub(crate) fn wire(&self, host: usize) -> usize
-        requires there { host < length self.now }
-        ensures { (end : EndState) → slice_get self.now host ≡ Some end → result ≡ end.wire }
+    /// Returns whether each end of a sender's wire, except the sender's, has room for one more frame.
+    pub(crate) fn have_room(&self, sender: usize) -> bool
+        requires there { sender < length self.now }
+        ensures { (end : EndState) → slice_get self.now sender ≡ Some end
+            → IsTrue result ↔ HaveRoom self.now sender end.wire }
     {
-        self.ends[host].wire
-    }
-
-    /// Returns whether each end of the wire, except the sender's, has room for one more frame.
-    pub(crate) fn have_room(&self, sender: usize, wire: usize) -> bool
-        ensures { IsTrue result ↔ HaveRoom self.now sender wire }
-    {
-        others_have_room(self.ends.as_slice(), sender, wire)
+        let wire = self.ends[sender].wire;
+        let ends = self.ends.as_slice();
+        for (number, end) in ends.iter().enumerate() {
+            if number != sender && end.wire == wire && end.waiting >= END_FRAMES {
+                return false;
+            }
+        }
+        true
     }
 
     /// Puts a frame of at most 1,518 bytes onto its sender's wire. The frame then waits at each other end of this wire,
@@ -277,7 +247,9 @@ impl Wires {
         ensures fits { IfSome result (λ frame. length frame.now ≤ longest_frame) }
     {
         let end = &self.ends[host];
-        self.logs[end.log].front(host, end.cursor)
+        let wire_log = &self.logs[end.log];
+        let place = wire_log.next(host, end.cursor)?;
+        Some(wire_log.as_slice()[place].1.as_slice())
     }
 
     /// Removes the oldest frame that waits at a host's end, if there is one.

@@ -1,10 +1,23 @@
-use Rattle.std.proofs.Common.{◌<◌, List, length, ap, arith}
+use Rattle.std.proofs.Common.{◌<◌, List, length, ap, arith, subst, sym, ◌∙◌}
 use Rattle.stations.specs.WireLogs.{LogEntry}
-use Rattle.stations.proofs.ClosedLogs.{drops, keeps-behind, keeps-of_other, tells-other, tells-own}
+use Rattle.stations.proofs.ClosedLogs.{ClosesUp, closes-all, closes-none, drops, keeps-behind, keeps-of_other, tells-other, tells-own}
 use Rattle.stations.proofs.wire_log.WireLog.close_up.Goals as goal
 use Rattle.stations.proofs.wire_log.WireLog.close_up.Goals.{then-place-second, then-place-second-via-then-place-second}
 use Rattle.stations.proofs.wire_log.WireLog.close_up.Goals.{then-place-second-via-else-place-second+then-index-reader}
 use Rattle.stations.proofs.wire_log.WireLog.close_up.Goals.{else-place-second+else-index-reader}
+
+pub loop-place-init : goal.loop-place-init
+loop-place-init c =
+    subst (λ (ys : List LogEntry). ClosesUp c.args.reader c.args.first c.args.second c.args.self.now ys 0 c.args.first)
+    (sym c.self.view_is)
+    (closes-none c.args.reader c.args.first c.args.second c.args.self.now c.requires.order
+    (omega (arith, c.requires.order, c.requires.there)))
+
+pub returns : goal.returns
+returns c = c.truncate.ensures.items
+    ∙ closes-all c.args.reader c.args.first c.args.second c.args.self.now c.loop-place.self-inside.entries.items c.loop-place.kept
+    c.loop-place.place c.loop-place.invariant
+    (omega (arith, c.len-place-end.ensures, c.self.inside.entries.ok.0, ap (λ (l : List LogEntry). length l) c.self.view_is))
 
 pub loop-place-preserved : goal.loop-place-preserved
 loop-place-preserved c =

@@ -1,9 +1,21 @@
-use Rattle.std.proofs.Common.{rules, ◌≡◌, List, ap, sym, subst, ◌∙◌}
+use Rattle.std.proofs.Common.{rules, ◌≡◌, ◌<◌, ◌↔◌, ℕ, List, ap, length, sym, subst, ◌∙◌}
+use Rattle.stations.specs.LogReaders.{end_at}
 use Rattle.stations.specs.WireLogs.{LogEntry}
 use Rattle.stations.specs.WiresView.{HaveLogs, ends_from}
 use Rattle.stations.specs.declared.wires.End.{End}
-use Rattle.stations.proofs.NewEnds.{connects, more-logs, more-shown, on_err}
+use Rattle.stations.proofs.NewEnds.{connects, logs-there, more-logs, more-shown, on_err, one-log}
 use Rattle.stations.proofs.wires.Wires.connect.Goals as goal
+
+pub log_for-requires-clause-there : goal.log_for-requires-clause-there
+log_for-requires-clause-there c =
+    subst (λ (ends : List End). (k : ℕ) → k < length ends → (end_at ends k).log < length c.self.inside.logs.items)
+    (sym (c.as_slice.ensures.value ∙ c.reserve.ensures.items)) (logs-there c.self.invariant)
+
+pub log_for-requires-clause-one : goal.log_for-requires-clause-one
+log_for-requires-clause-one c =
+    subst (λ (ends : List End). (j k : ℕ) → j < length ends → k < length ends
+    → (end_at ends j).wire ≡ (end_at ends k).wire ↔ ((end_at ends j).log ≡ (end_at ends k).log))
+    (sym (c.as_slice.ensures.value ∙ c.reserve.ensures.items)) (one-log c.self.invariant)
 
 pub invariant_of-self-in_err-log : goal.invariant_of-self-in_err-log
 invariant_of-self-in_err-log c =

@@ -1,15 +1,20 @@
-use Rattle.std.proofs.Common.{List, length, sym, subst}
+use Rattle.std.proofs.Common.{◌↔◌, IsTrue, false, length, refl, rules, true, arith}
 use Rattle.stations.specs.LogReaders.{OthersHaveRoom}
-use Rattle.stations.specs.declared.wires.End.{End}
-use Rattle.stations.proofs.WireEnds.{room-shown}
+use Rattle.stations.proofs.WireEnds.{below-ends, found-at, has-room}
 use Rattle.stations.proofs.wires.Wires.have_room.Goals as goal
+
+pub index-requires : goal.index-requires
+index-requires c = omega (arith, below-ends c.self.view_is c.self.invariant c.requires.there)
+
+pub returns-then-end-ge-END_FRAMES : goal.returns-then-end-ge-END_FRAMES
+returns-then-end-ge-END_FRAMES c =
+    let ends = c.as_slice-ends.result.now in
+    let tells : IsTrue false ↔ OthersHaveRoom (length ends) c.args.sender c.index.result.now.wire ends = (search rules) in
+    has-room (found-at c.self.view_is c.self.invariant c.requires.there c.index.ensures) c.as_slice-ends.ensures.value tells
 
 pub returns : goal.returns
 returns c =
-    let es = c.self.inside.ends.items in
-    let shown = room-shown c.self.inside.logs.items es c.args.self.now c.self.view_is c.args.sender c.args.wire c.self.invariant.reads in
-    let same = c.as_slice.ensures.value in
-    let room = λ (ends : List End). OthersHaveRoom (length ends) c.args.sender c.args.wire ends in (
-      λ free. shown.0 (subst room same (c.others_have_room.ensures.0 free)),
-      λ had. c.others_have_room.ensures.1 (subst room (sym same) (shown.1 had)),
-    )
+    let ends = c.as_slice-ends.result.now in
+    let tells : IsTrue true ↔ OthersHaveRoom (length ends) c.args.sender c.index.result.now.wire ends =
+    ((λ yes. λ k below other on. c.loop-number.invariant k (omega arith) other on), (λ room. refl)) in
+    has-room (found-at c.self.view_is c.self.invariant c.requires.there c.index.ensures) c.as_slice-ends.ensures.value tells

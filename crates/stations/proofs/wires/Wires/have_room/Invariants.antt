@@ -1,5 +1,5 @@
 use Rattle.stations.specs.LogReaders.{OthersHaveRoom}
-use Rattle.stations.proofs.wires.others_have_room.Given as goal
+use Rattle.stations.proofs.wires.Wires.have_room.Given as goal
 
 -- the other ends of the wire before this place have room
 abbrev pub invariant-loop-number : goal.invariant-loop-number
