@@ -202,3 +202,23 @@ has_freed-all bus joins a b c keeps freed turn still held is =
           (omega (arith, left)) held is;
       none = (turn held (ready-on bus _ _ keeps is (freed.ran held is))).none;
     }
+
+-- The oldest slots were freed, until no outstanding slot was written back.
+pub record HasReclaimed {B : Type 0} (bus : Ghosts B) (old new : Moment B) : Type 0 where
+  pub keeps : Keeps bus old.bus new.bus
+  pub others : new.driver ≡ with_transmit_slots old.driver new.driver.oldest_transmit new.driver.sending
+  pub tail : transmit_tail new.driver ≡ transmit_tail old.driver
+  pub reclaims : WhereUp bus old new (Reclaims bus)
+
+pub has-reclaimed : {B : Type 0} (bus : Ghosts B)
+    → ((a b c : B) (first later : Past) → bus.happened a b first → bus.happened b c later → bus.happened a c (joined first later))
+    → (a b c : Moment B) → Keeps bus a.bus b.bus → HasFreed bus a b → Keeps bus a.bus c.bus → WhereUp bus b c (LooksBack bus false)
+    → c.driver ≡ b.driver → HasReclaimed bus a c
+has-reclaimed bus joins a b c keeps freed all turn still =
+    let slots : DriverState → Type 0 = λ d. d ≡ with_transmit_slots a.driver d.oldest_transmit d.sending in
+    record {
+      keeps = all;
+      others = subst slots (sym still) freed.freeing.others;
+      tail = ap transmit_tail still ∙ freed.freeing.tail;
+      reclaims = has_freed-all bus joins a b c keeps freed turn still;
+    }

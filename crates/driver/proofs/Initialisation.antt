@@ -2,7 +2,7 @@
 use Rattle.std.proofs.Common.{Bool, IsTrue, Option, None, Some, is_some, true, false, ◌≡◌, ◌≤◌, ◌<◌, ◌+◌, ◌-◌, ◌*◌, ◌++◌, ◌∷◌, [], ℕ, List}
 use Rattle.std.proofs.Common.{length, map, inl, refl, sym, ap, subst, ◌∙◌, append_assoc, arith}
 use Rattle.std.specs.List.{All}
-use Rattle.std.specs.Prelude.{Err, IfErr, Result}
+use Rattle.std.specs.Prelude.{◌≢◌, Err, IfErr, Result}
 use Rattle.std.specs.Result.{IsErrAnd}
 use Rattle.std.proofs.lemmas.Result.{err_from_is_err_and}
 use Rattle.std.proofs.lemmas.List.{append-nil}
@@ -43,7 +43,7 @@ use Rattle.bring_up.specs.Configuration.{IsValidIn, configured_counts, vlans_of}
 use Rattle.bring_up.specs.ConfiguredAdapters.{HasSetup, IsConfigured, names_vlans, setup_of, writes_before_rings}
 use Rattle.bring_up.specs.DriverSteps.{LeavesDriver, LetsFramesIn, SetsTransmitRing, EnablesCauses, accesses_of}
 use Rattle.bring_up.specs.NoFrames.{IsNotTransmitRing, HasNoFrames, LeavesTransmitRing}
-use Rattle.bring_up.specs.Device.{IsBeforeAccess, IsFound}
+use Rattle.bring_up.specs.Device.{IsBeforeAccess, IsErrorOf, IsFound}
 use Rattle.bring_up.specs.declared.init_error.InitError.{InitError}
 use Rattle.bring_up.specs.declared.init_error.InitError.TheVariants.{Checksum, EepromTimeout, Memory, NoLink, PhyTimeout}
 use Rattle.bring_up.specs.declared.init_error.InitError.TheVariants as errors
@@ -62,7 +62,7 @@ use Rattle.bring_up.proofs.Steps.{IntervalsJoin}
 use Rattle.bring_up.proofs.NoFrames.{clears-write_none, new_transmit_ring_stays, quiet_stays, stores-write_none}
 use Rattle.bring_up.specs.Groups.{AreNamedOnce}
 use Rattle.bring_up.proofs.Numbers.{same-numbers}
-use Rattle.driver.specs.Initialisation.{HasFoundRing, Initialises, RefusesInit, first_accesses, transmit_accesses}
+use Rattle.driver.specs.Initialisation.{HasFoundRing, Initialises, IsErrorOfInit, RefusesInit, first_accesses, transmit_accesses}
 use Rattle.driver.proofs.FirstSlots.{head-first, offering}
 
 -- The register writes of each part
@@ -448,6 +448,35 @@ initialises bus joins b0 b1 b2 b3 b4 b5 config size address groups pool numbers 
 pub vlans-named : (vlans : Option (ArrayVec ℕ 32 (Unit {0}))) → is_some vlans ≡ names_vlans vlans
 vlans-named None = refl
 vlans-named (Some list) = refl
+
+-- `?` returns the error of a call
+
+pub passed : {T : Type 0} (P : InitError → Type 0) {from : InitError} (result : Result T InitError) → IsErrAnd result (λ y. y ≡ from)
+    → P from → IfErr result P
+passed P result told holds =
+    let err = err_from_is_err_and result told in
+    subst (λ r. IfErr r P) (sym (err.1 ∙ ap Err err.2)) holds
+
+pub config-told : {T : Type 0} {from : InitError} (result : Result T InitError) → IsErrAnd result (λ y. y ≡ from)
+    → from ≡ errors.Config → result ≡ Err errors.Config
+config-told result told is = let err = err_from_is_err_and result told in err.1 ∙ ap Err (err.2 ∙ is)
+
+pub not-config : {T : Type 0} {from : InitError} (result : Result T InitError) → IsErrAnd result (λ y. y ≡ from)
+    → from ≢ errors.Config → result ≢ Err errors.Config
+not-config result told other is =
+    let holds : IfErr result (λ error. error ≢ errors.Config) = passed (λ error. error ≢ errors.Config) result told other in
+    (subst (λ r. IfErr r (λ error. error ≢ errors.Config)) is holds) refl
+
+-- The error of a device that was not found
+
+pub why-found : (error : InitError) (image : List ℕ) (accesses : ℕ) → IsErrorOf error image accesses
+    → IsErrorOfInit error image accesses
+why-found Memory image accesses why = absurd why
+why-found errors.Config image accesses why = absurd why
+why-found EepromTimeout image accesses why = why
+why-found Checksum image accesses why = why
+why-found PhyTimeout image accesses why = why
+why-found NoLink image accesses why = why
 
 -- Initialization is refused before any access
 

@@ -13,6 +13,7 @@ pub mod TakenFrames
 pub mod HandlerSteps
 pub mod FirstSlots
 pub mod Initialisation
+pub mod MappedResults
 pub mod FreeSlots
 pub mod SummedMisses
 pub mod Resetting

@@ -1,10 +1,10 @@
 -- How a driver initializes its adapter ("14.3 General Initialization", "14.4 Receive Initialization", "14.5 Transmit
 -- Initialization"). The order of the accesses is our choice.
-use Rattle.std.specs.Prelude.{◌≡◌, ◌≤◌, ◌<◌, ◌+◌, ◌-◌, ◌*◌, ◌++◌, ℕ, false, List, [], ◌∷◌, Result, IfErr, IfOk, length}
+use Rattle.std.specs.Prelude.{◌≡◌, ◌≤◌, ◌<◌, ◌-◌, ◌*◌, ◌++◌, ℕ, List, [], ◌∷◌, Result, IfErr, IfOk, length}
 use Rattle.adapter.specs.declared.offsets.TheConstants.{RDBAL, RDT, TDBAL}
 use Rattle.registers.specs.Counting.{greatest_count}
 use Rattle.dma_memory.specs.Layout.{Counts, descriptor_bytes}
-use Rattle.dma_memory.specs.Owners.{HasOneOwner, HaveSameNumbers}
+use Rattle.dma_memory.specs.Owners.{HasOneOwner}
 use Rattle.registers.specs.Image.{HasRightSum, address_bytes}
 use Rattle.rx_engine.specs.Addresses.{IsAddress}
 use Rattle.rx_engine.specs.NumberTables.{HasNumbers, numbers_of_groups}
@@ -31,7 +31,7 @@ use Rattle.bring_up.specs.declared.config.Config.{Config}
 use Rattle.bring_up.specs.declared.init_error.InitError.{InitError}
 use Rattle.bring_up.specs.declared.init_error.InitError.TheVariants.{Memory}
 use Rattle.bring_up.specs.declared.init_error.InitError.TheVariants as errors
-use Rattle.bus.specs.Calls.{HasNoForgottenWork, IsReadyOver, IsRefilled, Moment, Ran, only, stores_from}
+use Rattle.bus.specs.Calls.{HasNoForgottenWork, IsRefilled, stores_from}
 use Rattle.bus.specs.Beginnings.{new_driver}
 use Rattle.bring_up.specs.Groups.{AreNamedOnce, HasTable}
 use Rattle.bus.specs.DriverState.{DriverState, owners, receive_slot, with_owners}
@@ -100,15 +100,6 @@ pub record FindsRing {B : Type 0} (bus : Ghosts B) (config : Config) (result : R
 abbrev pub first_accesses : Counts → List ℕ → List Access
 first_accesses counts numbers =
     stores_from counts 0 numbers ++ (clears (receive_slot (counts.rx - 1)) ∷ Writes RDT (counts.rx - 1) ∷ [])
-
--- All receive slots except the last were offered, with the buffers `numbers` of the pool.
-pub record OffersFirst {B : Type 0} (bus : Ghosts B) (old new : Moment B) : Type 0 where
-  pub numbers : List ℕ
-  pub count : length numbers + 1 ≡ old.driver.layout.rx
-  pub others : new.driver ≡ with_owners old.driver numbers [] new.driver.pool []
-  pub pool : HaveSameNumbers old.driver.pool (numbers ++ new.driver.pool)
-  -- If the bus obeys the law and the driver is ready with its transmit side off, the accesses are exactly these.
-  pub ran : IsReadyOver bus false old → Ran bus false (only (first_accesses old.driver.layout numbers)) old new
 
 -- The accesses that clear the transmit descriptors, set up the transmit ring, and write TCTL.
 abbrev pub transmit_accesses : Counts → List Access

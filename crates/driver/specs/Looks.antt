@@ -1,6 +1,6 @@
 -- What a driver finds in its oldest receive slots by loading their descriptors.
 use Rattle.std.specs.Prelude.{◌≡◌, ◌≤◌, ◌+◌, ◌*◌, ◌++◌, ◌∷◌, []}
-use Rattle.std.specs.Prelude.{ℕ, Bool, true, false, IsTrue, List, None, Option, Some, length, map, min, replicate}
+use Rattle.std.specs.Prelude.{ℕ, Bool, true, false, IsTrue, List, None, Option, Some, length, map, min}
 use Rattle.std.specs.Prelude.{suc, sum, take}
 use Rattle.std.specs.List.{concat}
 use Rattle.dma_memory.specs.Layout.{receive_buffer_bytes}
@@ -22,10 +22,6 @@ use Rattle.driver.specs.declared.parts.TheConstants.{MOST_PARTS}
 -- The greatest length in a receive descriptor, which has 16 bits ("3.2.3 Receive Descriptor Format").
 abbrev pub greatest_length : ℕ
 greatest_length = 65535
-
--- a run without slots
-abbrev pub new_run : Run
-new_run = record { lengths = replicate MOST_PARTS 0; count = 0; length = 0; whole = true }
 
 -- A piece of a whole frame may have this size: the last piece if `ends`, otherwise a piece before the last.
 abbrev pub IsPartSize : (ends : Bool) → ℕ → Type 0

@@ -1,33 +1,32 @@
 // Initialization of a driver and its adapter.
 
-ghost use Rattle.std.specs.Prelude.{◌≡◌, ◌↔◌, ◌*◌, ◌≤◌, Err, IfErr, IfOk, false, true};
+ghost use Rattle.std.specs.Prelude.{◌≡◌, ◌≢◌, ◌↔◌, ◌*◌, ◌≤◌, Err, Ok, IfErr, IfOk, false, true};
 ghost use Rattle.dma_memory.specs.Layout.{IsAllowed, descriptor_bytes, size_of};
 ghost use Rattle.dma_memory.specs.Owners.{HasOneOwner};
 ghost use Rattle.adapter.specs.Rings.{new_ring};
 ghost use Rattle.bring_up.specs.Configuration.{IsValidIn, configured_counts};
+ghost use Rattle.bring_up.specs.ConfiguredAdapters.{setup_of};
 ghost use Rattle.bring_up.specs.Device.{IsBeforeAccess};
+ghost use Rattle.bring_up.specs.Groups.{AreNamedOnce};
 ghost use Rattle.bring_up.specs.declared.init_error.InitError.TheVariants as InitError;
 ghost use Rattle.bus.specs.Keeping.{Keeps};
 ghost use Rattle.bus.specs.Beginnings.{new_driver};
 ghost use Rattle.bus.specs.Calls.{IsReadyOver, Ran, at, only};
 ghost use Rattle.bus.specs.DriverState.{DriverState};
-ghost use Rattle.driver.specs.InsideDriver.{CanReset};
-ghost use Rattle.driver.specs.InsideSetup.{setup_in};
-ghost use Rattle.driver.specs.Initialisation.{FindsRing, Initialises, IsFresh, OffersFirst, RefusesInit};
+ghost use Rattle.driver.specs.Initialisation.{FindsRing, Initialises, IsFresh, RefusesInit};
 ghost use Rattle.driver.specs.Initialisation.{transmit_accesses};
 
 use crate::Driver;
-use crate::refill::receive_slot;
 use crate::setup::Setup;
 use bring_up::{
-    Config, FilterModes, Groups, InitError, RingPlace, clear_descriptor, clear_descriptors,
-    enable_interrupts, enable_receiver, enable_transmitter, find_device, named_vlans, set_filter,
-    set_receive_ring, set_transmit_ring,
+    Config, FilterModes, Groups, InitError, RingPlace, clear_descriptors, enable_interrupts,
+    enable_receiver, enable_transmitter, find_device, named_vlans, set_filter, set_receive_ring,
+    set_transmit_ring,
 };
 use bus::Bus;
 use circular_buffer::HeapCircularBuffer;
 use dma_memory::{DESCRIPTOR_BYTES, Layout, Pool};
-use std::alloc::{AllocError, Global};
+use std::alloc::Global;
 
 /// Finds the device with [`find_device`], and then sets up its receive filter and its receive ring, with no slot
 /// offered. Returns the Ethernet address in the device's EEPROM. `config` must be valid in the memory of the bus
@@ -80,64 +79,60 @@ pub(crate) fn set_up_transmitter<B: Bus>(bus: &mut B, layout: Layout)
         → Ran B.Bus true (only (transmit_accesses layout)) (at bus.old d) (at bus.new d) }
 {
     let ring = layout.transmit_ring();
-    clear_descriptors(bus, ring, layout.tx());
-    set_transmit_ring(bus, place_of(ring, layout.tx()));
+    let slots = layout.tx();
+    clear_descriptors(bus, ring, slots);
+    set_transmit_ring(bus, place_of(ring, slots));
     enable_transmitter(bus);
 }
 
 impl Driver {
-    /// Returns a driver with this layout and this setup. Both must be valid (`CanReset`). The driver has offered no
-    /// slot, has joined these groups, and has each buffer of the layout once in its pool. Returns an error if an
-    /// allocation fails.
-    fn new(
+    /// Allocates the memory of a driver, and then finds the device with [`find_ring`]. Returns a driver with the
+    /// address in the device's EEPROM. The driver has offered no slot, has joined the groups of `config`, each once,
+    /// and has each buffer of the layout once in its pool. `config` must be valid in the memory of the bus
+    /// (`IsValidIn`), and `layout` must be the layout of `config`.
+    ///
+    /// # Errors
+    ///
+    /// E10 [`Memory`](InitError::Memory), without an access, if an allocation fails, else those of [`find_ring`]. E15
+    /// is never returned (`errors`).
+    fn find<B: Bus>(
         alloc: Global,
+        bus: &mut B,
+        config: &Config,
         layout: Layout,
-        groups: Groups,
-        setup: Setup,
-    ) -> Result<Driver, AllocError>
-        requires { CanReset layout setup }
-        ensures new { IfOk result (λ driver. driver ≡ new_driver layout (setup_in setup) groups driver.pool) }
+    ) -> Result<Driver, InitError>
+        requires counts { layout ≡ configured_counts config.now }
+        requires had { IsValidIn config.now (B.extent bus.old) }
+        ensures keeps { Keeps B.Bus bus.old bus.new }
+        ensures errors { IfErr result (λ error. error ≢ InitError.Config) }
+        ensures unasked { IfErr result (λ error. IsBeforeAccess error → bus.new ≡ bus.old) }
+        ensures new { IfOk result (λ driver.
+            driver ≡ new_driver layout (setup_of config.now driver.setup.address) driver.groups driver.pool) }
+        ensures joined { IfOk result (λ driver. AreNamedOnce config.now.groups.items driver.groups) }
         ensures one_owner { IfOk result (λ driver. HasOneOwner layout.buffers driver.pool) }
+        ensures finds { B.honest bus.old
+            → IfOk result (λ driver. FindsRing B.Bus config.now (Ok driver.setup.address) bus.old bus.new) }
+        ensures refuses { B.honest bus.old → IfErr result (RefusesInit B.Bus bus.old bus.new) }
     {
+        let buffers = HeapCircularBuffer::with_capacity(alloc, usize::from(layout.rx()))?;
+        let pool = Pool::new(alloc, layout.buffers())?;
+        let address = find_ring(bus, config, layout)?;
         Ok(Driver {
             layout,
             oldest_receive: 0,
             next_receive: 0,
-            buffers: HeapCircularBuffer::with_capacity(alloc, usize::from(layout.rx()))?,
+            buffers,
             staged: 0,
-            pool: Pool::new(alloc, layout.buffers())?,
+            pool,
             oldest_transmit: 0,
             next_transmit: 0,
             sending: 0,
             missed: 0,
             exact: true,
             bad: 0,
-            groups,
-            setup,
+            groups: Groups::of(config.groups.as_slice()),
+            setup: Setup::of(config, address),
         })
-    }
-
-    /// Sets the adapter's address in the setup.
-    fn set_address(&mut self, address: [u8; 6])
-        ensures { self.new ≡ record self.old { setup = record self.old.setup { address = address } } }
-    {
-        self.setup.address = address;
-    }
-
-    /// Stages all receive slots except the last one, clears the descriptor of the last slot, which gets no buffer, and
-    /// offers the staged slots. The driver must have offered no slot, must have each buffer once in its pool, and must
-    /// have at least one buffer for each receive slot.
-    fn offer_first<B: Bus>(&mut self, bus: &mut B)
-        requires memory { size_of self.old.layout ≤ B.extent bus.old }
-        requires new { self.old ≡ new_driver self.old.layout self.old.setup self.old.groups self.old.pool }
-        requires one_owner { HasOneOwner self.old.layout.buffers self.old.pool }
-        requires enough { self.old.layout.rx ≤ self.old.layout.buffers }
-        ensures keeps { Keeps B.Bus bus.old bus.new }
-        ensures offers { OffersFirst B.Bus (at bus.old self.old) (at bus.new self.new) }
-    {
-        self.stage_all(bus);
-        clear_descriptor(bus, receive_slot(self.layout.rx() - 1));
-        self.offer(bus);
     }
 
     /// Resets the adapter and initializes it by `config`: reads its EEPROM, awaits its link, and sets up its filter,
@@ -165,15 +160,13 @@ impl Driver {
         ensures refuses { B.honest bus.old → IfErr result (RefusesInit B.Bus bus.old bus.new) }
     {
         let layout = config.layout(bus.size())?;
-        let groups = Groups::of(config.groups.as_slice());
-        let mut driver = Driver::new(alloc, layout, groups, Setup::of(config))?;
-        let address = find_ring(bus, config, layout)?;
-        driver.set_address(address);
-        driver.offer_first(bus);
         let modes = FilterModes {
             promiscuous: config.promiscuous,
             by_vlan: config.vlans.is_some(),
         };
+        let mut driver = Driver::find(alloc, bus, config, layout)?;
+        // The pool has at least one buffer for each receive slot, so all slots except the last are offered.
+        driver.offer_free(bus);
         enable_receiver(bus, modes);
         set_up_transmitter(bus, layout);
         enable_interrupts(bus);

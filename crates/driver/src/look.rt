@@ -1,7 +1,7 @@
 // How a driver looks at its oldest receive slots.
 
 ghost use Rattle.std.specs.Prelude.{◌≡◌, ◌↔◌, ◌+◌, ◌*◌, ◌^◌, ◌<◌, ◌≤◌, length};
-ghost use Rattle.std.specs.Prelude.{slice_set, IfSome, IsTrue};
+ghost use Rattle.std.specs.Prelude.{min, slice_set, IfSome, IsTrue};
 ghost use Rattle.dma_memory.specs.Layout.{size_of};
 ghost use Rattle.dma_memory.specs.Owners.{HasNoSecondOwner};
 ghost use Rattle.registers.specs.Bits.{is_set};
@@ -9,7 +9,7 @@ ghost use Rattle.descriptors.specs.RxStatus.{dd, eop, status_bits};
 ghost use Rattle.bus.specs.Keeping.{Keeps};
 ghost use Rattle.bus.specs.Calls.{WhereReady, at};
 ghost use Rattle.bus.specs.DriverState.{owners};
-ghost use Rattle.driver.specs.Looks.{IsLookedRun, IsSoundPart, LooksAt, LooksAtPlace, greatest_length, new_run};
+ghost use Rattle.driver.specs.Looks.{IsLookedRun, IsSoundPart, LooksAt, LooksAtPlace, greatest_length};
 ghost use Rattle.driver.specs.Parts.{IsFrameSize};
 
 use crate::Driver;
@@ -65,18 +65,6 @@ fn is_sound(descriptor: &RxDesc) -> bool
 }
 
 impl Run {
-    /// Returns a run without slots. `whole` is true until a slot is added that can't contain a piece of a whole frame.
-    fn new() -> Run
-        ensures { result ≡ new_run }
-    {
-        Run {
-            lengths: [0; MOST_PARTS],
-            count: 0,
-            length: 0,
-            whole: true,
-        }
-    }
-
     /// Appends a slot with this descriptor. The run is no longer whole if the slot can't contain a piece of a whole
     /// frame. Before the call, the run must have fewer than six slots. Its length must be at most 65,535 bytes for each
     /// slot (`short`), so that the sum doesn't overflow.
@@ -113,6 +101,18 @@ impl Driver {
         self.buffers.len() - usize::from(self.staged)
     }
 
+    /// Returns the number of slots that a look may load: all outstanding receive slots, but at most six.
+    ///
+    /// Two clauses state parts of the driver's invariant. The number of outstanding slots fits into `usize` (`fits`),
+    /// and no receive buffer has two owners (`one_owner`).
+    fn most_slots(&self) -> usize
+        ensures count { result ≡ min (length self.now.buffers) MOST_PARTS }
+        ensures fits { length self.now.buffers < 2 ^ 64 }
+        ensures one_owner { HasNoSecondOwner self.now.layout.buffers (owners self.now) }
+    {
+        self.outstanding().min(MOST_PARTS)
+    }
+
     /// Loads and returns the descriptor of the slot that is `places` places after the oldest slot. `places` must be
     /// below the number of outstanding slots. If the bus obeys the law and the driver is ready, there is no other
     /// access, and DD shows whether the slot is finished (`looks`).
@@ -145,9 +145,14 @@ impl Driver {
         ensures one_owner { HasNoSecondOwner self.now.layout.buffers (owners self.now) }
         ensures looks { WhereReady B.Bus (at bus.old self.now) (at bus.new self.now) (LooksAt B.Bus result) }
     {
-        let outstanding = self.outstanding();
-        let mut run = Run::new();
-        while run.count < MOST_PARTS && run.count < outstanding {
+        let most = self.most_slots();
+        let mut run = Run {
+            lengths: [0; MOST_PARTS],
+            count: 0,
+            length: 0,
+            whole: true,
+        };
+        while run.count < most {
             let descriptor = self.descriptor_after(bus, run.count);
             if !is_done(&descriptor) {
                 return None;

@@ -58,19 +58,10 @@ impl Driver {
         self.sending = 0;
     }
 
-    /// Returns the number of staged slots. At least one receive slot is neither outstanding nor staged (`room`), so the
-    /// result is below the number of receive slots.
-    fn staged_count(&self) -> u16
-        ensures count { result ≡ length self.now.staged }
-        ensures room { length self.now.buffers + length self.now.staged < self.now.layout.rx }
-    {
-        self.staged
-    }
-
     /// Stages receive slots until no buffer is free, or only one slot isn't staged. Clears the descriptors of the other
     /// slots, and then offers the staged slots. Writes RDT even if no slot is staged. Before the call, no receive slot
     /// may be outstanding or staged, and the next slot to be offered must be slot 0.
-    fn offer_free<B: Bus>(&mut self, bus: &mut B)
+    pub(crate) fn offer_free<B: Bus>(&mut self, bus: &mut B)
         requires memory { size_of self.old.layout ≤ B.extent bus.old }
         requires first { self.old.oldest_receive ≡ 0 }
         requires none_out { self.old.buffers ≡ [] }
@@ -79,8 +70,9 @@ impl Driver {
         ensures offers { OffersFree B.Bus (at bus.old self.old) (at bus.new self.new) }
     {
         self.stage_all(bus);
-        let staged = self.staged_count();
-        clear_descriptors(bus, receive_slot(staged), self.layout.rx() - staged);
+        // At least one receive slot isn't staged, so the difference doesn't wrap.
+        let spare = self.layout.rx() - self.staged;
+        clear_descriptors(bus, receive_slot(self.staged), spare);
         self.offer_all(bus);
     }
 
@@ -111,11 +103,11 @@ impl Driver {
         set_filter(bus, self.groups.as_slice(), vlans, &self.setup.address);
         let layout = self.layout;
         set_receive_ring(bus, place_of(layout.receive_ring(), layout.rx()));
-        self.offer_free(bus);
         let modes = FilterModes {
             promiscuous: self.setup.promiscuous,
             by_vlan: self.setup.vlans.is_some(),
         };
+        self.offer_free(bus);
         enable_receiver(bus, modes);
         set_up_transmitter(bus, layout);
         enable_interrupts(bus);

@@ -1,6 +1,6 @@
 // The setup with which a driver initializes its adapter again.
 
-ghost use Rattle.std.specs.Prelude.{◌≡◌, replicate};
+ghost use Rattle.std.specs.Prelude.{◌≡◌};
 ghost use Rattle.bring_up.specs.Configuration.{HasRightNumbers};
 ghost use Rattle.bring_up.specs.ConfiguredAdapters.{setup_of};
 ghost use Rattle.driver.specs.InsideSetup.{IsRightSetup, setup_in};
@@ -22,19 +22,18 @@ pub(crate) struct Setup {
 }
 
 impl Setup {
-    /// Returns the setup of a configuration, with an address of zeros until the adapter's address is known. RXA and the
-    /// VLANs of the configuration must be valid. Its groups must be valid, too, only because `HasRightNumbers` is about
-    /// the whole configuration.
-    pub(crate) fn of(config: &Config) -> Setup
+    /// Returns the setup of a configuration, with the adapter's address. RXA and the VLANs of the configuration must be
+    /// valid. Its groups must be valid, too, only because `HasRightNumbers` is about the whole configuration.
+    pub(crate) fn of(config: &Config, address: [u8; 6]) -> Setup
         requires { HasRightNumbers config.now }
-        ensures is { setup_in result ≡ setup_of config.now (replicate 6 0) }
+        ensures is { setup_in result ≡ setup_of config.now address }
         ensures right { IsRightSetup result }
     {
         Setup {
             rxa: config.rxa,
             promiscuous: config.promiscuous,
             vlans: copied(&config.vlans),
-            address: [0; 6],
+            address,
         }
     }
 }
@@ -43,18 +42,11 @@ impl Setup {
 fn copied(vlans: &Option<ArrayVec<u16, MOST_VLANS>>) -> Option<ArrayVec<u16, MOST_VLANS>>
     ensures { result ≡ vlans.now }
 {
-    match vlans {
-        Some(list) => Some(copy_of(list)),
-        None => None,
-    }
-}
-
-/// Returns a copy of a list of VLANs.
-fn copy_of(list: &ArrayVec<u16, MOST_VLANS>) -> ArrayVec<u16, MOST_VLANS>
-    ensures { result ≡ list.now }
-{
+    let Some(list) = vlans else {
+        return None;
+    };
     let mut copy = ArrayVec::new();
     // The copy has the same capacity as `list`, so all VLANs fit, and the result is always Ok.
     let _fits = copy.try_extend_from_slice(list.as_slice());
-    copy
+    Some(copy)
 }

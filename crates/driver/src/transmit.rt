@@ -9,7 +9,7 @@ ghost use Rattle.descriptors.specs.TxFields.{tx_dd};
 ghost use Rattle.bus.specs.Keeping.{Keeps};
 ghost use Rattle.bus.specs.Calls.{Ran, WhereUp, at, whole_descriptor};
 ghost use Rattle.bus.specs.DriverState.{transmit_slot, transmit_tail};
-ghost use Rattle.driver.specs.SendSteps.{FreesOldest, HasWrongLength, LooksBack, Reclaims, Transmits};
+ghost use Rattle.driver.specs.SendSteps.{FreesOldest, HasWrongLength, LooksBack, Transmits};
 ghost use Rattle.driver.specs.SendSteps.{sent_now, sent_status_offset, with_transmit_slots};
 
 use crate::Driver;
@@ -99,18 +99,6 @@ impl Driver {
         true
     }
 
-    /// Frees the oldest outstanding transmit slots, one after the other, until the oldest slot's descriptor doesn't
-    /// have DD, or no slot is outstanding.
-    pub(crate) fn reclaim<B: Bus>(&mut self, bus: &mut B)
-        requires memory { size_of self.old.layout ≤ B.extent bus.old }
-        ensures keeps { Keeps B.Bus bus.old bus.new }
-        ensures others { self.new ≡ with_transmit_slots self.old self.new.oldest_transmit self.new.sending }
-        ensures tail { transmit_tail self.new ≡ transmit_tail self.old }
-        ensures reclaims { WhereUp B.Bus (at bus.old self.old) (at bus.new self.new) (Reclaims B.Bus) }
-    {
-        while self.free_oldest(bus) {}
-    }
-
     /// Sends a frame of 14 to 1,518 bytes in the slot after the outstanding slots. Stores the frame's bytes into the
     /// slot's buffer, then the slot's descriptor, and then writes TDT. At least two transmit slots must be free: one
     /// for the frame, and one because the slots of a ring are never all outstanding.
@@ -168,7 +156,7 @@ impl Driver {
         if frame.len() > LONGEST_SENDABLE {
             return Err(SendError::TooLong);
         }
-        self.reclaim(bus);
+        while self.free_oldest(bus) {}
         if self.sending + 1 == self.layout.tx() {
             return Err(SendError::RingFull);
         }

@@ -1,4 +1,6 @@
-use Rattle.std.proofs.Common.{◌∙◌, arith, refl, sym}
+use Rattle.std.proofs.Common.{◌∙◌, ap, arith, length, length-take, refl, sym}
+use Rattle.std.proofs.lemmas.List.{length-map}
+use Rattle.driver.specs.declared.parts.Part.{Part}
 use Rattle.driver.proofs.TakenBuffers.{one-more, some-first}
 use Rattle.driver.proofs.receive.take_parts.Goals.{in-Some, in_default}
 use Rattle.driver.proofs.receive.take_parts.Goals as goal
@@ -17,3 +19,15 @@ loop-length-preserved c =
           (omega (arith, c.loop-length-test.true, c.requires.enough)) l.invariant.queue
           (sym c.pop_front.ensures.value ∙ w.in_default.is))
     ]
+
+pub push-requires : goal.push-requires
+push-requires c =
+    let l = c.loop-length in
+    omega (
+      arith,
+      ap length l.invariant.lengths,
+      length-map l.parts (λ (part : Part). part.length),
+      length-take l.length-index c.args.lengths.now,
+      c.loop-length-test.true,
+      c.requires.few,
+    )

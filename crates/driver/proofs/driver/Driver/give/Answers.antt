@@ -1,4 +1,5 @@
 use Rattle.std.proofs.Common.{arith, ap}
+use Rattle.dma_memory.specs.Layout.{size_of}
 use Rattle.dma_memory.specs.Owners.{copies}
 use Rattle.dma_memory.specs.OwnersLaws.{copies-append}
 use Rattle.bus.proofs.Owners.{owners-count}
@@ -28,3 +29,6 @@ pub returns-clause-gives : goal.returns-clause-gives
 returns-clause-gives g c =
     gives g.B.Bus g.met.B.Bus.composes.stays g.met.B.Bus.composes.joins c.args.bus.now c.args.self.now c.put_back.new.self
     (at c.refill.new.bus c.refill.new.self) c.args.parts c.put_back.ensures.others c.put_back.ensures.back c.refill.ensures.refills
+
+pub refill-requires : goal.refill-requires
+refill-requires g c = omega (arith, ap (λ (d : DriverState). size_of d.layout) c.put_back.ensures.others, c.requires.memory)

@@ -1,5 +1,6 @@
 use Rattle.std.proofs.Common.{◌≡◌, true, false, ◌++◌, length, length-append, ap, refl, subst, ◌∙◌, arith}
 use Rattle.bus.proofs.Keeping.{keeps-on}
+use Rattle.dma_memory.specs.Layout.{size_of}
 use Rattle.registers.specs.Bits.{Meet}
 use Rattle.bus.proofs.RegisterAccesses.{reads-causes}
 use Rattle.bus.specs.DriverState.{DriverState, holding}
@@ -103,3 +104,25 @@ returns-clause-handles g c up held is =
           c.read.result c.count_missed.result c.take_finished-taken.result _ held follows
           (c.is_mine.ensures.0 c.if-not-is_mine.false) reads counts all refills;
     }
+
+pub take_finished-taken-requires : goal.take_finished-taken-requires
+take_finished-taken-requires g c =
+    omega (
+      arith,
+      ap (λ (d : DriverState). size_of d.layout) c.count_missed.ensures.others,
+      c.requires.memory,
+      c.read.ensures.keeps.extent,
+      c.count_missed.ensures.keeps.extent,
+    )
+
+pub refill-requires : goal.refill-requires
+refill-requires g c =
+    omega (
+      arith,
+      ap (λ (d : DriverState). size_of d.layout) c.count_missed.ensures.others,
+      ap (λ (d : DriverState). size_of d.layout) c.take_finished-taken.ensures.slots.others,
+      c.requires.memory,
+      c.read.ensures.keeps.extent,
+      c.count_missed.ensures.keeps.extent,
+      c.take_finished-taken.ensures.keeps.extent,
+    )

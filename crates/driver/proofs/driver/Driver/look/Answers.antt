@@ -1,4 +1,4 @@
-use Rattle.std.proofs.Common.{◌≡◌, Bool, List, length, length-set, refl, sym, ap, ◌≤◌}
+use Rattle.std.proofs.Common.{◌≡◌, Bool, List, length, length-set, refl, replicate, sym, true, ap, ◌<◌, ◌≤◌}
 use Rattle.std.proofs.Common.{◌∙◌, arith}
 use Rattle.std.specs.Prelude.{IsTrue}
 use Rattle.bus.proofs.Keeping.{keeps-here, keeps-on}
@@ -11,24 +11,28 @@ use Rattle.driver.proofs.SeenSlots.{full-added, full-none, is-added, loads-next,
 use Rattle.driver.proofs.SeenSlots.{sees_slots-none, sum-added}
 use Rattle.driver.proofs.driver.Driver.look.Given.{Over}
 use Rattle.driver.proofs.driver.Driver.look.Goals.{After-add, After-descriptor_after-descriptor}
-use Rattle.driver.proofs.driver.Driver.look.Goals.{then-loop-run-test+else-run-outstanding, else-loop-run-test}
 use Rattle.driver.proofs.driver.Driver.look.Goals as goal
 
 pub loop-run-init : goal.loop-run-init
 loop-run-init g c =
-    let run = c.new-run.result in
-    let is = c.new-run.ensures in
+    let run : Run = record { lengths = replicate 6 0; count = 0; length = 0; whole = true } in
     record {
-      few = omega (arith, ap (λ (r : Run). r.count) is);
-      size = ap (λ (r : Run). length r.lengths) is;
-      outstanding = omega (arith, ap (λ (r : Run). r.count) is);
-      short = omega (arith, ap (λ (r : Run). r.length) is);
-      sum_is = rw is refl;
-      full = λ whole. full-none run (ap (λ (r : Run). r.count) is);
+      few = omega arith;
+      size = refl;
+      outstanding = omega arith;
+      short = omega arith;
+      sum_is = refl;
+      full = λ whole. full-none run refl;
       keeps = keeps-here g.B.Bus g.met.B.Bus.composes.lent_stays_here c.args.bus.now;
       sees = λ up held ready. sees_slots-none g.B.Bus g.met.B.Bus.composes.stays run (holding held c.args.self.now) c.args.bus.now
-          (ap (λ (r : Run). r.count) is) (ap (λ (r : Run). r.length) is) (ap (λ (r : Run). r.whole) is) ready.ready;
+          refl refl refl ready.ready;
     }
+
+pub descriptor_after-descriptor-requires : goal.descriptor_after-descriptor-requires
+descriptor_after-descriptor-requires g c = record {
+  memory = omega (arith, c.requires.memory, c.loop-run.invariant.keeps.extent);
+  outstanding = omega (arith, c.loop-run-test.true, c.most_slots-most.ensures.count);
+}
 
 next : (g : Over) (c : After-descriptor_after-descriptor g) (up : Bool) (held : List HandedOut)
     → IsReadyOver g.B.Bus up (held_at held (at c.args.bus.now c.args.self.now))
@@ -49,19 +53,32 @@ returns-then-not-is_done-clause-looks g c up held is =
     c.descriptor_after-descriptor.new.bus (next g c.before.before.before up held is) (sym c.if-not-is_done.ensures)
     (omega (
       arith,
-      c.if-run-outstanding.true,
-      c.outstanding-outstanding.ensures.count,
+      c.loop-run-test.true,
+      c.most_slots-most.ensures.count,
     ))
+
+pub returns-then-not-is_done-clause-keeps : goal.returns-then-not-is_done-clause-keeps
+returns-then-not-is_done-clause-keeps g c =
+    keeps-on g.B.Bus g.met.B.Bus.composes.lent_stays_on _ _ _ c.loop-run.invariant.keeps c.descriptor_after-descriptor.ensures.keeps
 
 -- The next slot is finished.
 
 abbrev loaded : (g : Over) → After-add g → After-descriptor_after-descriptor g
 loaded g c = c.before.before.before.before.before.before
 
+pub add-requires : goal.add-requires
+add-requires g c = record {
+  room = omega (arith, c.loop-run-test.true, c.most_slots-most.ensures.count);
+  short = c.loop-run.invariant.short;
+}
+
+below : (g : Over) (c : After-add g) → c.loop-run.run.count < 6
+below g c = omega (arith, c.loop-run-test.true, c.most_slots-most.ensures.count)
+
 added : (g : Over) (c : After-add g) → IsAdded c.loop-run.run c.add.new.self c.descriptor_after-descriptor.result
 added g c =
     let a = c.add.ensures in
-    is-added c.loop-run.run c.add.new.self c.descriptor_after-descriptor.result c.loop-run-test.true c.loop-run.invariant.size a.lengths
+    is-added c.loop-run.run c.add.new.self c.descriptor_after-descriptor.result (below g c) c.loop-run.invariant.size a.lengths
     a.count a.length
 
 shown : (g : Over) (c : After-add g) (up : Bool) (held : List HandedOut)
@@ -84,15 +101,15 @@ room g c =
     ∙ c.loop-run.invariant.size
 
 few : (g : Over) (c : After-add g) → c.add.new.self.count ≤ 6
-few g c = omega (arith, c.add.ensures.count, c.loop-run-test.true)
+few g c = omega (arith, c.add.ensures.count, below g c)
 
 inside : (g : Over) (c : After-add g) → c.add.new.self.count ≤ length c.args.self.now.buffers
 inside g c =
     omega (
       arith,
       c.add.ensures.count,
-      c.if-run-outstanding.true,
-      c.outstanding-outstanding.ensures.count,
+      c.loop-run-test.true,
+      c.most_slots-most.ensures.count,
     )
 
 -- A frame ends in the next slot. If the run is whole, the buffers of the slots before are full.
@@ -114,6 +131,10 @@ returns-then-is_ended-clause-finds g c =
           fills-added run c.add.new.self desc (added g there) (sym c.if-is_ended.ensures) both.0 (i.full both.1);
     }
 
+pub returns-then-is_ended-clause-keeps : goal.returns-then-is_ended-clause-keeps
+returns-then-is_ended-clause-keeps g c =
+    keeps-on g.B.Bus g.met.B.Bus.composes.lent_stays_on _ _ _ c.loop-run.invariant.keeps c.descriptor_after-descriptor.ensures.keeps
+
 pub returns-then-is_ended-clause-looks : goal.returns-then-is_ended-clause-looks
 returns-then-is_ended-clause-looks g c up held is =
     let there = c.before.before.before.before.before in
@@ -124,6 +145,9 @@ returns-then-is_ended-clause-looks g c up held is =
     finds-frame g.B.Bus c.loop-run.run run c.descriptor_after-descriptor.result (holding held c.args.self.now) c.args.bus.now
     c.descriptor_after-descriptor.new.bus (next g (loaded g there) up held is) (shown g there up held is) same (sym c.if-is_ended.ensures)
     (λ legal. c.is_frame.ensures.1 (whole g there up held is, legal))
+
+pub loop-run-smaller : goal.loop-run-smaller
+loop-run-smaller g c = omega (arith, c.add.ensures.count, c.loop-run-test.true, c.most_slots-most.ensures.count)
 
 pub loop-run-preserved : goal.loop-run-preserved
 loop-run-preserved g c =
@@ -153,11 +177,7 @@ pub returns-then-run-lt-MOST_PARTS-clause-looks : goal.returns-then-run-lt-MOST_
 returns-then-run-lt-MOST_PARTS-clause-looks g c up held is =
     let i = c.loop-run.invariant in
     finds-all_seen g.B.Bus c.loop-run.run (holding held c.args.self.now) c.args.bus.now c.loop-run.bus (i.sees up held is)
-    (let all = c.outstanding-outstanding.ensures.count in
-    elim c.loop-run-test.branch [
-      | then-loop-run-test+else-run-outstanding w ↦ omega (arith, w.if-run-outstanding.false, all, i.outstanding)
-      | else-loop-run-test w ↦ omega (arith, w.loop-run-test.false, c.if-run-lt-MOST_PARTS.true)
-    ])
+    (omega (arith, c.loop-run-test.false, c.most_slots-most.ensures.count, c.if-run-lt-MOST_PARTS.true, i.outstanding))
 
 -- Six slots without an end were seen.
 pub returns-clause-finds : goal.returns-clause-finds

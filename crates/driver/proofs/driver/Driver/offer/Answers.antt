@@ -1,10 +1,12 @@
-use Rattle.std.proofs.Common.{◌≡◌, ◌∷◌, [], List, length, sym, ap, subst, ◌∙◌}
+use Rattle.std.proofs.Common.{◌≡◌, ◌∷◌, [], ℕ, List, length, refl, sym, ap, subst, ◌∙◌}
+use Rattle.bus.proofs.Keeping.{keeps-here}
 use Rattle.bus.specs.declared.event.Access.{Access}
 use Rattle.bus.specs.declared.event.Access.TheVariants.{Writes}
 use Rattle.bus.proofs.DriverAccesses.{ran_by-stays}
 use Rattle.bus.specs.Calls.{Ran, at, only, tail_write}
 use Rattle.bus.specs.DriverState.{DriverState, holding, next_receive}
-use Rattle.driver.proofs.BufferQueue.{no_second-inside, queue-split, tail_write-none}
+use Rattle.driver.specs.InsideDriver.{driver_state_of}
+use Rattle.driver.proofs.BufferQueue.{no_second-inside, offered-inside, queue-split, tail_write-none}
 use Rattle.driver.proofs.BufferQueue.{tail_write-some}
 use Rattle.driver.proofs.driver.Driver.offer.Goals as goal
 
@@ -29,3 +31,14 @@ returns-clause-ran g c up held is =
 
 pub returns-then-self-eq0-clause-one_owner : goal.returns-then-self-eq0-clause-one_owner
 returns-then-self-eq0-clause-one_owner g c = rw (← c.self.view_is) (no_second-inside c.self.inside c.self.invariant.receives)
+
+pub returns-then-self-eq0-clause-keeps : goal.returns-then-self-eq0-clause-keeps
+returns-then-self-eq0-clause-keeps g c = keeps-here g.B.Bus g.met.B.Bus.composes.lent_stays_here c.args.bus.now
+
+pub returns-then-self-eq0-clause-others : goal.returns-then-self-eq0-clause-others
+returns-then-self-eq0-clause-others g c = rw (← c.self.view_is) (
+    ap (λ (staged : ℕ). driver_state_of (record c.self.inside { staged = staged })) c.if-self-eq0.true
+    ∙ offered-inside c.self.inside c.self.invariant.receives)
+
+pub returns-then-self-eq0-clause-owners : goal.returns-then-self-eq0-clause-owners
+returns-then-self-eq0-clause-owners g c k = refl

@@ -1,10 +1,46 @@
-use Rattle.std.proofs.Common.{false, ◌≡◌, ◌<◌, ◌-◌, ◌*◌, ◌++◌, ℕ, List, length, ap, subst, ◌∙◌, arith}
-use Rattle.dma_memory.specs.Layout.{Counts}
+use Rattle.std.proofs.Common.{false, ◌≡◌, ◌<◌, ◌-◌, ◌*◌, ◌++◌, ℕ, List, length, ap, subst, sym, ◌∙◌, arith}
+use Rattle.dma_memory.specs.Layout.{Counts, ReceiveRing}
+use Rattle.dma_memory.specs.LayoutLaws.{place-below_size}
+use Rattle.bus.proofs.Keeping.{keeps-on}
 use Rattle.bus.specs.Calls.{Ran, at, only}
 use Rattle.bus.specs.DriverState.{DriverState}
 use Rattle.bring_up.specs.ClearedDescriptors.{clears_from}
+use Rattle.driver.proofs.BufferQueue.{queue-split}
 use Rattle.driver.proofs.FreeSlots.{offers-free}
 use Rattle.driver.proofs.driver.Driver.offer_free.Goals as goal
+
+-- At least one slot isn't staged.
+pub overflow_sub-spare : goal.overflow_sub-spare
+overflow_sub-spare g c =
+    let receives = c.self.invariant.receives in
+    omega (arith, receives.some_staged, receives.room, c.rx.ensures.count)
+
+pub clear_descriptors-requires : goal.clear_descriptors-requires
+clear_descriptors-requires g c =
+    let receives = c.self.invariant.receives in
+    record {
+      memory =
+          omega (
+            arith,
+            c.receive_slot.ensures,
+            c.rx.ensures.count,
+            receives.some_staged,
+            receives.room,
+            place-below_size c.args.self.now.layout ReceiveRing tt,
+            ap (λ (s : DriverState). s.layout.rx) c.self.view_is,
+            ap (λ (s : DriverState). s.layout.rx) c.stage_all.ensures.stages.stages.others,
+            c.requires.memory,
+            c.stage_all.ensures.keeps.extent,
+          );
+      addresses = omega (arith, c.receive_slot.ensures, c.rx.ensures.allowed.most, receives.some_staged, receives.room, c.rx.ensures.count);
+    }
+
+pub returns-clause-keeps : goal.returns-clause-keeps
+returns-clause-keeps g c =
+    let on = keeps-on g.B.Bus g.met.B.Bus.composes.lent_stays_on c.args.bus.now in
+    on c.clear_descriptors.new.bus c.offer_all.new.bus
+    (on c.stage_all.new.bus c.clear_descriptors.new.bus c.stage_all.ensures.keeps c.clear_descriptors.ensures.keeps)
+    c.offer_all.ensures.keeps
 
 pub returns-clause-offers : goal.returns-clause-offers
 returns-clause-offers g c =
@@ -13,19 +49,20 @@ returns-clause-offers g c =
     let n = length staged.numbers in
     let b1 = c.stage_all.new.bus in
     let b2 = c.clear_descriptors.new.bus in
-    let number : c.staged_count-staged.result ≡ n =
-    c.staged_count-staged.ensures.count ∙ ap (λ (s : DriverState). length s.staged) staged.stages.others
+    let all : length c.stage_all.new.self.staged ≡ n =
+    ap (λ (s : DriverState). length s.staged) staged.stages.others
     ∙ ap (λ (list : List ℕ). length (list ++ staged.numbers)) c.requires.none_staged in
+    let number : c.self.inside.staged ≡ n =
+    sym (queue-split c.self.inside c.self.invariant.receives).staged ∙ ap (λ (s : DriverState). length s.staged) c.self.view_is ∙ all in
     let rx : c.rx.result ≡ d0.layout.rx =
     c.rx.ensures.count ∙ ap (λ (s : DriverState). s.layout.rx) c.self.view_is
     ∙ ap (λ (s : DriverState). s.layout.rx) staged.stages.others in
     let slot : c.receive_slot.result ≡ 16 * n = c.receive_slot.ensures ∙ ap (λ (k : ℕ). 16 * k) number in
-    let rest : c.rx.result - c.staged_count-staged.result ≡ d0.layout.rx - n = omega (arith, rx, number) in
+    let rest : c.rx.result - c.self.inside.staged ≡ d0.layout.rx - n = omega (arith, rx, number) in
     let room : n < d0.layout.rx = omega (
       arith,
-      c.staged_count-staged.ensures.room,
-      c.staged_count-staged.ensures.count,
-      number,
+      c.stage_all.ensures.room,
+      all,
       ap (λ (s : DriverState). s.layout.rx) staged.stages.others,
     ) in
     let Clears : DriverState → ℕ → ℕ → Type 0 = λ d first count.

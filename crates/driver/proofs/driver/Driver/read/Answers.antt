@@ -1,5 +1,5 @@
 use Rattle.std.proofs.Common.{◌≡◌, ◌<◌, ◌≤◌, ◌+◌, ◌-◌, ◌++◌, ◌∙◌}
-use Rattle.std.proofs.Common.{rules, ℕ, List, length, take, drop, refl, ap, subst, arith}
+use Rattle.std.proofs.Common.{rules, ℕ, List, length, sum, take, drop, refl, sym, ap, subst, arith}
 use Rattle.std.proofs.lemmas.List.{length-map, take_all}
 use Rattle.std.proofs.lemmas.Slice.{drop-put_mid, take-put_mid}
 use Rattle.bus.proofs.Keeping.{keeps-here, keeps-on}
@@ -7,7 +7,7 @@ use Rattle.dma_memory.specs.Layout.{receive_buffer_bytes}
 use Rattle.bus.proofs.DriverAccesses.{ran_by-stays}
 use Rattle.bus.specs.Calls.{Ran, at, only}
 use Rattle.bus.specs.DriverState.{buffer_at, frame_of, holding}
-use Rattle.driver.specs.Parts.{part_loads, part_of}
+use Rattle.driver.specs.Parts.{lengths_in, part_loads, part_of}
 use Rattle.driver.specs.declared.parts.Part.{Part}
 use Rattle.driver.proofs.ReadFrames.{all-values, bytes-next, copied-long, frame-next}
 use Rattle.driver.proofs.ReadFrames.{is-next, part-long, read-fits, reads-next, rest-next}
@@ -115,3 +115,19 @@ returns-clause-frame g c up first pieces later is are =
     let all : length pieces ≤ c.loop-part.index =
     omega (arith, c.in_default.ensures.none, ap length are, length-map pieces part_of) in
     c.loop-part.invariant.frame up first pieces later is are ∙ ap frame_of (take_all c.loop-part.index pieces all)
+
+pub loop-part-smaller : goal.loop-part-smaller
+loop-part-smaller g c = omega (arith, c.in-Some.ensures.some)
+
+pub returns-clause-keeps : goal.returns-clause-keeps
+returns-clause-keeps g c = c.loop-part.invariant.keeps
+
+pub returns-clause-length : goal.returns-clause-length
+returns-clause-length g c =
+    let parts = c.args.received.now.parts in
+    c.loop-part.invariant.read_is
+    ∙ ap (λ (list : List Part). sum (lengths_in list)) (take_all c.loop-part.index parts c.in_default.ensures.none)
+    ∙ sym c.requires.whole.sum
+
+pub returns-clause-rest : goal.returns-clause-rest
+returns-clause-rest g c = c.loop-part.invariant.rest

@@ -19,11 +19,10 @@ use Rattle.bring_up.specs.RingRegisters.{receive_writes, ring_setup_writes}
 use Rattle.bring_up.specs.declared.ring_registers.RingPlace.{RingPlace}
 use Rattle.bus.proofs.DriverAccesses.{ran_by-join}
 use Rattle.bus.specs.Calls.{IsRefilled, Ran, at, only, missed_added}
-use Rattle.bus.specs.DriverState.{DriverSetup, DriverState, holding, owners, with_owners}
+use Rattle.bus.specs.DriverState.{DriverState, holding, owners, with_owners}
 use Rattle.bus.specs.ReadyDrivers.{ReadyWith}
 use Rattle.bus.specs.Resets.{reset_driver}
 use Rattle.driver.specs.Resetting.{Resets, free_accesses, stop_accesses}
-use Rattle.driver.specs.InsideSetup.{setup_in}
 use Rattle.driver.proofs.Initialisation.{vlans-named}
 use Rattle.driver.proofs.ResetOwners.{reset-owners}
 use Rattle.driver.proofs.Resetting.{resets-all}
@@ -181,11 +180,7 @@ returns-clause-resets g c up held is =
     subst (λ (named : List ℕ). SetsFilter bus d0.groups named address b5 b6) c.named_vlans-vlans.ensures
     (subst (λ (named : List (List ℕ)). SetsFilter bus named c.named_vlans-vlans.result.now address b5 b6) groups
     (c.set_filter.ensures.sets h5)) in
-    let same : setup_in c.self-2.inside.setup ≡ setup_of config address =
-    ap (λ (d : DriverState). d.setup) c.self-2.view_is ∙ ap (λ (d : DriverState). d.setup) o.others
-    ∙ sym (ap (λ (d : DriverState). d.setup) c.self.view_is) in
-    let tagged : c.is_some.result ≡ names_vlans config.vlans =
-    c.is_some.ensures ∙ vlans-named c.self-2.inside.setup.vlans ∙ ap (λ (kept : DriverSetup). kept.by_vlan) same in
+    let tagged : c.is_some.result ≡ names_vlans s.vlans = c.is_some.ensures ∙ vlans-named s.vlans in
     let final : Resets bus up (at b0 e0) (at b11 e8) =
     resets-all bus joins up b0 b2 b3 b4 b5 b6 b7 b8 b9 b10 b11 config address (bus.extent b0) v e0 pool o.numbers left
     layout setup had room stop off (c.count_missed.ensures.cleared h1) resets (c.reset_device.ensures.sets h2).settings
@@ -198,11 +193,51 @@ returns-clause-resets g c up held is =
     (at b8 (holding held c.offer_free.new.self))) again_held
     (o.ran held (record { honest = h7; ready = subst (λ (d : DriverState). ReadyWith false d (bus.world b7)) (sym again_held) ready })))))
     (λ ready none off_there.
-    subst (λ (promiscuous : Bool). LetsFramesIn bus (receive_writes promiscuous (names_vlans config.vlans)) e8 b8 b9)
-    (ap (λ (kept : DriverSetup). kept.promiscuous) same)
-    (subst (λ (by_vlan : Bool). LetsFramesIn bus (receive_writes c.self-2.inside.setup.promiscuous by_vlan) e8 b8 b9) tagged
-    (c.enable_receiver.ensures.ran e8 (record { honest = h8; ready = ready }) (record { off = off_there; none_held = none }))))
+    subst (λ (by_vlan : Bool). LetsFramesIn bus (receive_writes s.promiscuous by_vlan) e8 b8 b9) tagged
+    (c.enable_receiver.ensures.ran e8 (record { honest = h8; ready = ready }) (record { off = off_there; none_held = none })))
     (λ ready new.
     c.set_up_transmitter.ensures.ran e8 (record { honest = h9; ready = ready }) layout refl refl new)
     (λ ready. c.enable_interrupts.ensures.enables e8 (record { honest = h10; ready = ready })) in
     subst (λ (d : DriverState). Resets bus up (at b0 e0) (at b11 d)) (sym last_is) final
+
+pub offer_free-requires : goal.offer_free-requires
+offer_free-requires g c =
+    let again = c.forget_slots.ensures.others in
+    record {
+      memory =
+          omega (
+            arith,
+            ap (λ (d : DriverState). size_of d.layout) again,
+            ap (λ (d : DriverState). size_of d.layout) c.count_missed.ensures.others,
+            c.requires.memory,
+            c.disable_receiver.ensures.keeps.extent,
+            c.count_missed.ensures.keeps.extent,
+            c.reset_device.ensures.keeps.extent,
+            c.allocate_packet_buffer.ensures.keeps.extent,
+            c.set_link_up.ensures.keeps.extent,
+            c.set_filter.ensures.keeps.extent,
+            c.set_receive_ring.ensures.keeps.extent,
+          );
+      first = ap (λ (d : DriverState). d.oldest_receive) again;
+      none_out = ap (λ (d : DriverState). d.buffers) again;
+      none_staged = ap (λ (d : DriverState). d.staged) again;
+    }
+
+pub set_up_transmitter-requires-clause-memory : goal.set_up_transmitter-requires-clause-memory
+set_up_transmitter-requires-clause-memory g c =
+    omega (
+      arith,
+      ap (λ (d : DriverState). size_of d.layout) c.self.view_is,
+      ap (λ (d : DriverState). size_of d.layout) c.forget_slots.ensures.others,
+      ap (λ (d : DriverState). size_of d.layout) c.count_missed.ensures.others,
+      c.requires.memory,
+      c.disable_receiver.ensures.keeps.extent,
+      c.count_missed.ensures.keeps.extent,
+      c.reset_device.ensures.keeps.extent,
+      c.allocate_packet_buffer.ensures.keeps.extent,
+      c.set_link_up.ensures.keeps.extent,
+      c.set_filter.ensures.keeps.extent,
+      c.set_receive_ring.ensures.keeps.extent,
+      c.offer_free.ensures.keeps.extent,
+      c.enable_receiver.ensures.keeps.extent,
+    )

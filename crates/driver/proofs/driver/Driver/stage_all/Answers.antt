@@ -1,6 +1,8 @@
-use Rattle.std.proofs.Common.{[]}
+use Rattle.std.proofs.Common.{◌∷◌, [], ap, length, length-append, arith}
+use Rattle.dma_memory.specs.Layout.{size_of}
 use Rattle.bus.proofs.Keeping.{keeps-here, keeps-on}
 use Rattle.bus.specs.Calls.{at}
+use Rattle.bus.specs.DriverState.{DriverState}
 use Rattle.driver.proofs.RefillSteps.{stages-join, stages-none}
 use Rattle.driver.proofs.driver.Driver.stage_all.Goals as goal
 
@@ -32,3 +34,26 @@ returns-clause-stages g c = record {
   stages = rw (c.loop-test.ensures.still, c.loop-test.ensures.stays)
       c.loop.invariant.stages.stages;
 }
+
+pub stage-requires : goal.stage-requires
+stage-requires g c =
+    let i = c.loop.invariant in
+    let same = ap (λ (d : DriverState). size_of d.layout) i.stages.stages.others in
+    omega (arith, same, c.requires.memory, i.keeps.extent)
+
+-- One more slot is staged.
+pub loop-smaller : goal.loop-smaller
+loop-smaller g c =
+    let one = c.loop-test.ensures.stages in
+    let others = one.1.others in
+    omega (
+      arith,
+      ap (λ (d : DriverState). length d.buffers) others,
+      ap (λ (d : DriverState). length d.staged) others,
+      length-append c.loop.self.staged (one.0 ∷ []),
+      ap (λ (d : DriverState). d.layout.rx) others,
+      c.stage.ensures.room,
+    )
+
+pub returns-clause-keeps : goal.returns-clause-keeps
+returns-clause-keeps g c = keeps-on g.B.Bus g.met.B.Bus.composes.lent_stays_on _ _ _ c.loop.invariant.keeps c.stage.ensures.keeps

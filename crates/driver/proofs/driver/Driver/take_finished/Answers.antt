@@ -132,3 +132,13 @@ pass_on-requires-clause-memory g c =
 
 pub pass_on-requires-clause-one_owner : goal.pass_on-requires-clause-one_owner
 pass_on-requires-clause-one_owner g c = c.take_run-parts.ensures.one_owner
+
+-- The run left the ring.
+pub loop-run-smaller : goal.loop-run-smaller
+loop-run-smaller g c =
+    omega (
+      arith,
+      run-left _ c.in-Some.run' c.take_run-parts.result c.loop-run.self c.take_run-parts.new.self c.in-Some.ensures.finds
+          c.take_run-parts.ensures.leaves,
+      ap (λ (d : DriverState). length d.buffers) c.pass_on.ensures.others,
+    )

@@ -1,7 +1,7 @@
 use Rattle.bus.specs.Keeping.{Keeps}
 use Rattle.bus.specs.Calls.{at}
 use Rattle.driver.proofs.FreedSlots.{HasFreed}
-use Rattle.driver.proofs.driver.Driver.reclaim.Given as goal
+use Rattle.driver.proofs.driver.Driver.transmit.Given as goal
 
 abbrev pub invariant-loop : goal.invariant-loop
 invariant-loop g l = record {
