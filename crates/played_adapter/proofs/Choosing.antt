@@ -1,10 +1,15 @@
--- Offered frames that arrive, and accesses of requests.
-use Rattle.std.proofs.Common.{◌≡◌, ◌∷◌, ◌∙◌, [], ℕ, List, ap, refl, subst, sym}
+-- Drawn numbers, offered frames that arrive, and accesses of requests.
+use Rattle.std.proofs.Common.{◌≡◌, ◌==◌, ◌+◌, ◌%◌, ◌||◌, ◌∷◌, ◌∙◌, [], ℕ, Bool, List, ap, arith, cond, false, nat_lt, refl, subst, sym}
+use Rattle.std.proofs.Common.{true}
+use Rattle.std.proofs.lemmas.Bool.Decides.{nat_tests}
+use Rattle.rand_pcg.specs.Lcg.{Lcg}
+use Rattle.rand_pcg.specs.Pcg.{pcg32}
 use Rattle.bus.specs.Machines.{MachineState, after_event}
 use Rattle.bus.specs.Trails.{Occurs}
 use Rattle.bus.specs.declared.event.Access.{Access}
 use Rattle.bus.specs.declared.event.Event.TheVariants.{Arrives}
 use Rattle.rx_engine.specs.declared.arrival.Fate.{Fate}
+use Rattle.played_adapter.specs.Draws.{chosen_below, drawn_count}
 use Rattle.played_adapter.specs.Order.{ComposesHeard, Tells}
 use Rattle.played_adapter.specs.Playing.{FrameArrives, HappensAlone, Interleaves, NextArrives, OldestArrives, Paced, ReportsLine, after}
 use Rattle.played_adapter.specs.Requests.{AccessedAfter, ServesAccess}
@@ -12,6 +17,19 @@ use Rattle.played_adapter.specs.Told.{OfferedArrived, Told}
 use Rattle.played_adapter.specs.declared.player.PlayedAdapter.{PlayedAdapter}
 use Rattle.played_adapter.proofs.Happening.{happened}
 use Rattle.played_adapter.proofs.Telling.{tells_both, tells_so}
+
+count_by : (none over below : Bool) (generator : Lcg) (drawn : ℕ × Lcg) → over ≡ false
+    → cond (none || over) (cond below 0 0, generator) drawn ≡ cond none (0, generator) drawn
+count_by true over true generator drawn is = refl
+count_by true over false generator drawn is = refl
+count_by false over below generator drawn is = ap (λ (b : Bool). cond b (cond below 0 0, generator) drawn) is
+
+-- A number of at most `most` is a number below `most + 1`.
+pub count_is : (most : ℕ) (generator : Lcg) → chosen_below most (most + 1) 0 generator ≡ drawn_count most generator
+count_is most generator =
+    let positive : (most + 1 == 0) ≡ false = grind (arith, nat_tests) in
+    count_by (most == 0) (most + 1 == 0) (nat_lt 0 (most + 1)) generator
+    ((pcg32 generator).0 % (most + 1), (pcg32 generator).1) positive
 
 module _ {O : Type 0} (heard : O → O → List Told → Type 0) (laws : ComposesHeard heard) where
   pub none_arrives : (left : List (List ℕ)) (a : PlayedAdapter) (before : O) → a.offered ≡ [] → left ≡ []

@@ -10,7 +10,8 @@ use Rattle.adapter.specs.declared.outcome.Outcome.{Outcome}
 use Rattle.adapter.specs.declared.outcome.Outcome.TheVariants.{Took, Put, WireFull, Part, Moved, Done, Delivered, Ticked, Nothing, Fault}
 use Rattle.played_adapter.specs.Playing.{Cycle, Settles, with_last}
 use Rattle.played_adapter.specs.Order.{ComposesHeard, InOrder, Tells}
-use Rattle.played_adapter.specs.Outcomes.{moved_by}
+use Rattle.std.specs.Int.{from_bool}
+use Rattle.played_adapter.specs.Outcomes.{did, moved_by}
 use Rattle.played_adapter.specs.Told.{Told}
 use Rattle.played_adapter.specs.declared.player.PlayedAdapter.{PlayedAdapter}
 use Rattle.played_adapter.proofs.Telling.{tells_more, tells_none, tells_so}
@@ -26,6 +27,19 @@ moved_little (Delivered unit fate) = omega arith
 moved_little Ticked = omega arith
 moved_little Nothing = omega arith
 moved_little Fault = omega arith
+
+-- A step that did something counts 1.
+pub counts : (outcome : Outcome (Unit {0})) → from_bool (did outcome) ≡ moved_by outcome
+counts Took = refl
+counts (Put unit) = refl
+counts WireFull = refl
+counts Part = refl
+counts Moved = refl
+counts Done = refl
+counts (Delivered unit fate) = refl
+counts Ticked = refl
+counts Nothing = refl
+counts Fault = refl
 
 is_below : (n most : ℕ) → n < most → nat_lt n most ≡ true
 is_below n most below = grind (arith, nat_tests)

@@ -1,18 +1,18 @@
 -- Events that happened and were told, from their parts.
-use Rattle.std.proofs.Common.{◌≡◌, ◌++◌, ◌∙◌, ◌∷◌, [], ℕ, List, ap, false, length, refl}
+use Rattle.std.proofs.Common.{◌≡◌, ◌++◌, ◌∙◌, ◌∷◌, [], ℕ, Bool, List, ap, false, if◌then◌else◌, length, refl, subst, sym, true}
 use Rattle.bus.specs.Machines.{MachineState, after_event}
 use Rattle.bus.specs.Trails.{Occurs}
 use Rattle.bus.specs.declared.event.Access.{Access}
 use Rattle.bus.specs.declared.event.Event.{Event}
 use Rattle.bus.specs.declared.event.Event.TheVariants.{Accesses}
 use Rattle.played_adapter.specs.Order.{ComposesHeard, Tells}
-use Rattle.played_adapter.specs.Playing.{Accessed, AnswersLoad, HappensTold, HappensAlone, Prepares}
-use Rattle.played_adapter.specs.Playing.{ReportsLine, after, has_bytes, line_change}
+use Rattle.played_adapter.specs.Playing.{Accessed, AnswersLoad, HappensTold, HappensAlone, PlaysAll, Prepares}
+use Rattle.played_adapter.specs.Playing.{ReportsLine, Ticks, after, has_bytes, kinds_of_ticks, line_change}
 use Rattle.played_adapter.specs.Playing.{reported}
 use Rattle.played_adapter.specs.Told.{Told}
 use Rattle.played_adapter.specs.Told as told
 use Rattle.played_adapter.specs.declared.player.PlayedAdapter.{PlayedAdapter}
-use Rattle.played_adapter.proofs.Telling.{tells_both}
+use Rattle.played_adapter.proofs.Telling.{tells_both, tells_so}
 
 module _ {O : Type 0} (heard : O → O → List Told → Type 0) (laws : ComposesHeard heard) where
   pub happened : (one : Event) (of_it of_that : List Told) (a next m b : PlayedAdapter) (before now end : O)
@@ -36,6 +36,19 @@ module _ {O : Type 0} (heard : O → O → List Told → Type 0) (laws : Compose
   alone access a b machine before now end occurs state tells reports =
       happened (Accesses access) _ (told.Accessed access ∷ []) a (after (Accesses access) a) _ b before now end occurs
       (ap (λ (m : MachineState). record a { machine = m }) state) tells refl reports
+
+  pub ticks_on : (a b : PlayedAdapter) (moved : ℕ) (before now : O) → a.ticks ≡ true
+      → Tells heard before now (PlaysAll kinds_of_ticks moved a b) → Tells heard before now (Ticks a b)
+  ticks_on a b moved before now on plays =
+      tells_so heard (PlaysAll kinds_of_ticks moved a b) (Ticks a b) before now
+      (λ told all. (moved, subst (λ (is : Bool). PlaysAll (if is then kinds_of_ticks else []) moved a b told) (sym on) all)) plays
+
+  pub ticks_off : (a : PlayedAdapter) (before : O) → a.ticks ≡ false → Tells heard before before (Ticks a a)
+  ticks_off a before off = record {
+    told = [];
+    holds = (0, subst (λ (is : Bool). PlaysAll (if is then kinds_of_ticks else []) 0 a a []) (sym off) (refl, refl));
+    hears = laws.stays before;
+  }
 
   pub accessed : (access : Access) (a middle b : PlayedAdapter) (before now end : O) → Tells heard before now (Prepares a middle)
       → Tells heard now end (HappensAlone access middle b) → Tells heard before end (Accessed access a b)

@@ -1,5 +1,5 @@
 -- Scheduled steps that are played before an access.
-use Rattle.std.proofs.Common.{◌≡◌, ◌∙◌, ◌<◌, ◌++◌, [], ◌∷◌, ℕ, Bool, true, false, List, Some, None, ap, append_assoc, arith, cond}
+use Rattle.std.proofs.Common.{◌≡◌, ◌∙◌, ◌<◌, ◌≤◌, ◌++◌, [], ◌∷◌, ℕ, Bool, true, false, List, Some, None, ap, append_assoc, arith, cond}
 use Rattle.std.proofs.Common.{drop, nat_le}
 use Rattle.std.proofs.Common.{refl, slice_get, subst, sym}
 use Rattle.std.proofs.lemmas.Bool.Decides.{nat_tests}
@@ -37,6 +37,19 @@ first_is_late access (x ∷ rest) step is later =
     let same : x ≡ step = cc in
     let below : access < x.access = subst (λ (s : ScheduledStep). access < s.access) (sym same) later in
     late (nat_le x.access access) x (due access rest) (grind (arith, nat_tests))
+
+early : (is : Bool) (x step : ScheduledStep) (later : List ScheduledStep) → is ≡ true → x ≡ step
+    → Some step ≡ slice_get (cond is (x ∷ later) []) 0
+early true x step later is same = cc
+early false x step later is same = absurd (cc)
+
+pub first_is_due : (access : ℕ) (items : List ScheduledStep) (step : ScheduledStep) → slice_get items 0 ≡ Some step → step.access ≤ access
+    → Some step ≡ slice_get (due access items) 0
+first_is_due access [] step is now = absurd (cc)
+first_is_due access (x ∷ rest) step is now =
+    let same : x ≡ step = cc in
+    let within : x.access ≤ access = subst (λ (s : ScheduledStep). s.access ≤ access) (sym same) now in
+    early (nat_le x.access access) x step (due access rest) (grind (arith, nat_tests)) same
 
 nothing_left : (steps : List ScheduledStep) → None ≡ slice_get steps 0 → steps ≡ []
 nothing_left [] is = refl

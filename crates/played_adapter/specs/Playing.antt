@@ -154,6 +154,16 @@ abbrev pub next_frames : List Queued → List (List ℕ)
 next_frames [] = []
 next_frames (queued ∷ later) = queued.frame ∷ []
 
+-- the adapter after a step `TxPut` was announced; if frames that are put wait, the frame that the step will put waits on the wire after the
+-- others
+abbrev pub after_announced_put : PlayedAdapter → PlayedAdapter
+after_announced_put a = record a {
+  wire = record a.wire {
+    frames = if a.keeps_put && has_room a then a.wire.frames ++ next_frames a.machine.world.adapter.transmitter.buffer
+        else a.wire.frames;
+  };
+}
+
 -- the adapter after a step; a frame that the step put waits on the wire after the others, if frames that are put wait
 abbrev pub after_played_step : StepKind → Outcome (Unit {0}) → PlayedAdapter → PlayedAdapter
 after_played_step kind outcome a = record a {

@@ -4,7 +4,7 @@ ghost use Rattle.std.specs.Prelude.{◌≡◌, ◌+◌, ◌≤◌, [], false, le
 ghost use Rattle.bus.specs.declared.event.Access.TheVariants.{Loads, Reads, Stores, Writes};
 ghost use Rattle.dma_memory.specs.HostMemory.{bytes_at};
 ghost use Rattle.played_adapter.specs.Order.{Tells};
-ghost use Rattle.played_adapter.specs.Playing.{Accessed, AnswersLoad, AnswersStore, HappensAlone, Prepares, Ticks};
+ghost use Rattle.played_adapter.specs.Playing.{Accessed, AnswersLoad, AnswersStore, HappensAlone, Prepares};
 ghost use Rattle.played_adapter.specs.Playing.{access_counted, has_bytes};
 
 use crate::observer::Observer;
@@ -15,31 +15,19 @@ use adapter::StepKind;
 const TICKS: [StepKind; 2] = [StepKind::EepromTick, StepKind::PhyTick];
 
 impl PlayedAdapter {
-    /// Plays a step of the EEPROM and one of the PHY, if ticks are on.
-    fn tick<O: Observer>(&mut self, observer: &mut O)
-        ensures { Tells O.heard observer.old observer.new (Ticks self.old self.new) }
+    /// Counts an access and returns `true` if ticks are off, no steps are drawn, and no step is scheduled: then nothing
+    /// is played before the access. Otherwise changes nothing and returns `false`; there may still be nothing to play.
+    #[inline(always)]
+    fn count_if_quiet(&mut self) -> bool
+        ensures quiet { result ≡ true → (self.old.ticks ≡ false) × (self.old.most_steps ≡ 0)
+            × (self.old.scheduled.items ≡ []) × (self.new ≡ access_counted self.old) }
+        ensures busy { result ≡ false → self.new ≡ self.old }
     {
-        if self.ticks {
-            self.play(&TICKS, observer);
+        if self.ticks || self.most_steps != 0 || !self.scheduled.is_empty() {
+            return false;
         }
-    }
-
-    /// Counts an access, up to the greatest `u64`.
-    #[inline(always)]
-    fn count(&mut self)
-        ensures { self.new ≡ access_counted self.old }
-    {
         self.accesses = self.accesses.saturating_add(1);
-    }
-
-    /// Returns whether ticks are off, no steps are drawn, and no step is scheduled. If so, nothing is played before the
-    /// next access. If not, there may still be nothing to play, so the clause states nothing about the result `false`.
-    #[inline(always)]
-    fn is_quiet(&self) -> bool
-        ensures { result ≡ true →
-            (self.now.ticks ≡ false) × (self.now.most_steps ≡ 0) × (self.now.scheduled.items ≡ []) }
-    {
-        !self.ticks && self.most_steps == 0 && self.scheduled.is_empty()
+        true
     }
 
     /// Plays the steps and arrivals before an access, and counts the access. Only the test and the count are inlined,
@@ -48,8 +36,7 @@ impl PlayedAdapter {
     fn prepare<O: Observer>(&mut self, observer: &mut O)
         ensures { Tells O.heard observer.old observer.new (Prepares self.old self.new) }
     {
-        if self.is_quiet() {
-            self.count();
+        if self.count_if_quiet() {
             return;
         }
         self.prepare_steps(observer);
@@ -61,10 +48,12 @@ impl PlayedAdapter {
     fn prepare_steps<O: Observer>(&mut self, observer: &mut O)
         ensures { Tells O.heard observer.old observer.new (Prepares self.old self.new) }
     {
-        self.tick(observer);
+        if self.ticks {
+            self.play(&TICKS, observer);
+        }
         self.play_scheduled(observer);
         self.interleave_steps(observer);
-        self.count();
+        self.accesses = self.accesses.saturating_add(1);
     }
 
     /// Reads a register, and reports the read and then a change of the interrupt line, if there is one.
@@ -118,8 +107,7 @@ impl PlayedAdapter {
     pub fn read<O: Observer>(&mut self, offset: u32, observer: &mut O) -> u32
         ensures { Tells O.heard observer.old observer.new (Accessed (Reads offset result) self.old self.new) }
     {
-        if self.is_quiet() {
-            self.count();
+        if self.count_if_quiet() {
             return self.read_now(offset, observer);
         }
         self.read_after_steps(offset, observer)
@@ -140,8 +128,7 @@ impl PlayedAdapter {
     pub fn write<O: Observer>(&mut self, offset: u32, value: u32, observer: &mut O)
         ensures { Tells O.heard observer.old observer.new (Accessed (Writes offset value) self.old self.new) }
     {
-        if self.is_quiet() {
-            self.count();
+        if self.count_if_quiet() {
             self.write_now(offset, value, observer);
             return;
         }

@@ -1,22 +1,27 @@
 // What a schedule plays before accesses and requests.
 
-ghost use Rattle.std.specs.Prelude.{◌≡◌, ◌++◌, flat_map, map};
+ghost use Rattle.std.specs.Prelude.{◌≡◌, ◌++◌, flat_map};
 ghost use Rattle.played_adapter.specs.Moves as spec;
 ghost use Rattle.played_adapter.specs.Order.{InOrder, Tells};
 ghost use Rattle.played_adapter.specs.Playing.{Makes};
+ghost use Rattle.step_schedules.specs.Agendas.{agenda_after};
 ghost use Rattle.step_schedules.specs.Events.{event_value};
-ghost use Rattle.step_schedules.specs.Waiting.{due_before, waiting_value};
+ghost use Rattle.step_schedules.specs.Waiting.{due_before};
 
 use crate::choices::{Choice, Move};
 use crate::observer::Observer;
 use crate::player::PlayedAdapter;
 use adapter::StepKind;
-use step_schedules::{Action, Agenda, Before, Event, Held, Waiting};
+use step_schedules::{Action, Agenda, Before, Event};
 
-/// Returns the moves of an action, in order. An action has at most two moves; a hold and a chosen number have no moves.
-fn moves_of(action: Action) -> (Option<Move>, Option<Move>)
-    ensures { spec.listed result.0 ++ spec.listed result.1 ≡ spec.moves_of action }
+/// Returns the moves of an action, in order, or no moves if there is no action. An action has at most two moves; a hold
+/// and a chosen number have no moves.
+fn moves_of(action: Option<Action>) -> (Option<Move>, Option<Move>)
+    ensures { spec.listed result.0 ++ spec.listed result.1 ≡ spec.moves_of_next action }
 {
+    let Some(action) = action else {
+        return (None, None);
+    };
     match action {
         Action::TxTake => (Some(Move::Play(Choice::Step(StepKind::TxTake))), None),
         Action::TxPut => (Some(Move::Play(Choice::Step(StepKind::TxPut))), None),
@@ -49,67 +54,26 @@ fn default_move(is_held: bool, kind: StepKind, hold: Action) -> Move
 }
 
 impl PlayedAdapter {
-    /// Plays a move, if there is one.
-    fn make_next<O: Observer>(&mut self, next: Option<Move>, observer: &mut O)
-        ensures { Tells O.heard observer.old observer.new (InOrder Makes (spec.listed next) self.old self.new) }
-    {
-        if let Some(next) = next {
-            self.make(next, observer);
-        }
-    }
-
-    /// Plays the first move, if there is one, and then the second move, if there is one.
-    fn make_both<O: Observer>(
-        &mut self,
-        first: Option<Move>,
-        second: Option<Move>,
-        observer: &mut O,
-    )
-        ensures { Tells O.heard observer.old observer.new
-            (InOrder Makes (spec.listed first ++ spec.listed second) self.old self.new) }
-    {
-        self.make_next(first, observer);
-        self.make_next(second, observer);
-    }
-
-    /// Plays the moves of an action, if there is an action.
-    fn make_action<O: Observer>(&mut self, action: Option<Action>, observer: &mut O)
-        ensures { Tells O.heard observer.old observer.new
-            (InOrder Makes (spec.moves_of_next action) self.old self.new) }
-    {
-        if let Some(action) = action {
-            let (first, second) = moves_of(action);
-            self.make_both(first, second, observer);
-        }
-    }
-
-    /// Plays the moves of the default steps of the EEPROM and of the PHY, in this order. A step that has work has a
-    /// move: its hold if the step is held, else the step. Both tests for work precede the first move.
-    fn make_ticks<O: Observer>(&mut self, held: Held, observer: &mut O)
-        ensures { Tells O.heard observer.old observer.new
-            (InOrder Makes (spec.tick_moves held self.old) self.old self.new) }
-    {
-        let eeprom = default_move(held.eeprom, StepKind::EepromTick, Action::HoldEeprom);
-        let phy = default_move(held.phy, StepKind::PhyTick, Action::HoldPhy);
-        let eeprom = self.machine.eeprom_has_work().then_some(eeprom);
-        let phy = self.machine.phy_has_work().then_some(phy);
-        self.make_both(eeprom, phy, observer);
-    }
-
-    /// Plays the actions that are due before an access or a request that comes now, in the order of the schedule.
-    /// `waiting` are all deviations of the schedule. Actions without moves, such as holds, do nothing.
-    fn make_due<O: Observer>(&mut self, waiting: &[Waiting], event: &Event<'_>, observer: &mut O)
-        ensures { Tells O.heard observer.old observer.new (InOrder Makes
-            (flat_map spec.moves_of (due_before (event_value event.now) (map waiting_value waiting.now)))
+    /// Plays the moves of the actions that are due before an access or a request that comes now, in the order of the
+    /// schedule. Actions without moves, such as holds, do nothing. Then the agenda counts the access or the request.
+    fn meet<O: Observer>(&mut self, agenda: &mut Agenda, event: &Event<'_>, observer: &mut O)
+        ensures plays { Tells O.heard observer.old observer.new (InOrder Makes
+            (flat_map spec.moves_of (due_before (event_value event.now) agenda.old.deviations))
             self.old self.new) }
+        ensures met { agenda.new ≡ agenda_after (event_value event.now) agenda.old }
     {
+        let waiting = agenda.deviations();
         for one in waiting {
-            self.make_action(one.due_action(event), observer);
+            let (first, second) = moves_of(one.due_action(event));
+            self.make(first, observer);
+            self.make(second, observer);
         }
+        agenda.count(event);
     }
 
-    /// Plays the moves of the default steps, and then of the due actions, before an access of this kind, whose target
-    /// has this name. Then the agenda counts the access. The caller makes the access afterwards.
+    /// Plays the moves of the default steps of the EEPROM and of the PHY, and then of the due actions, before an access
+    /// of this kind, whose target has this name. Then the agenda counts the access. The caller makes the access
+    /// afterwards.
     pub fn meet_access<O: Observer>(
         &mut self,
         agenda: &mut Agenda,
@@ -122,9 +86,15 @@ impl PlayedAdapter {
         ensures met { agenda.new ≡ spec.met before name.now agenda.old }
     {
         let event = agenda.coming(before, name);
-        self.make_ticks(agenda.held(&event), observer);
-        self.make_due(agenda.deviations(), &event, observer);
-        agenda.count(&event);
+        let held = agenda.held(&event);
+        let eeprom = default_move(held.eeprom, StepKind::EepromTick, Action::HoldEeprom);
+        let phy = default_move(held.phy, StepKind::PhyTick, Action::HoldPhy);
+        // A step that has work has a move, the EEPROM's first. Both tests for work precede the first move.
+        let eeprom = self.machine.eeprom_has_work().then_some(eeprom);
+        let phy = self.machine.phy_has_work().then_some(phy);
+        self.make(eeprom, observer);
+        self.make(phy, observer);
+        self.meet(agenda, &event, observer);
     }
 
     /// Plays the moves of the actions that are due before a request of this kind, with this first word. Then the agenda
@@ -141,7 +111,6 @@ impl PlayedAdapter {
         ensures met { agenda.new ≡ spec.met before name.now agenda.old }
     {
         let event = agenda.coming(before, name);
-        self.make_due(agenda.deviations(), &event, observer);
-        agenda.count(&event);
+        self.meet(agenda, &event, observer);
     }
 }

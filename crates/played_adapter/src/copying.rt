@@ -1,13 +1,11 @@
 // A copy of an adapter.
 
 ghost use Rattle.std.specs.Prelude.{◌≡◌, IfOk};
-ghost use Rattle.bus.specs.Machines.{is_asserted};
 ghost use Rattle.played_adapter.specs.Playing.{IsCopy};
 
 use crate::player::{PlayedAdapter, Queues, address_of};
 use bus::Machine;
 use descriptors::copy_of;
-use rand_pcg::Lcg64Xsh32;
 use std::alloc::AllocError;
 
 /// Returns a copy of the adapter and its memory. Fails only if memory was refused. This is `clone`, with a clause that
@@ -36,37 +34,6 @@ impl PlayedAdapter {
         })
     }
 
-    /// Returns the same adapter with this machine, these frames and scheduled steps, and this generator. The level of
-    /// the interrupt line counts as reported. The clause states nothing about the address of memory.
-    fn with_copies(&self, machine: Machine, queues: Queues, generator: Lcg64Xsh32) -> PlayedAdapter
-        ensures { result ≡ record self.now {
-          machine = record machine { reported = is_asserted machine.world.adapter };
-          address = result.address;
-          wire = queues.wire;
-          offered = queues.offered;
-          generator = generator;
-          scheduled = queues.scheduled;
-        } }
-    {
-        // The parts make a new machine, because the level of a new machine's line counts as reported.
-        let (adapter, memory) = machine.into_parts();
-        let address = address_of(&memory);
-        PlayedAdapter {
-            machine: Machine::new(adapter, memory),
-            address,
-            wire: queues.wire,
-            keeps_put: self.keeps_put,
-            wire_free: self.wire_free,
-            offered: queues.offered,
-            generator,
-            most_steps: self.most_steps,
-            pace: self.pace,
-            scheduled: queues.scheduled,
-            accesses: self.accesses,
-            ticks: self.ticks,
-        }
-    }
-
     /// Returns a copy of the adapter with everything that its calls depend on.
     ///
     /// The copy has memory of its own, and the level of its interrupt line counts as reported.
@@ -80,6 +47,22 @@ impl PlayedAdapter {
         let generator = self.generator.clone()?;
         let queues = self.copy_queues()?;
         let machine = copy_of_machine(&self.machine)?;
-        Ok(self.with_copies(machine, queues, generator))
+        // The parts make a new machine, because the level of a new machine's line counts as reported.
+        let (adapter, memory) = machine.into_parts();
+        let address = address_of(&memory);
+        Ok(PlayedAdapter {
+            machine: Machine::new(adapter, memory),
+            address,
+            wire: queues.wire,
+            keeps_put: self.keeps_put,
+            wire_free: self.wire_free,
+            offered: queues.offered,
+            generator,
+            most_steps: self.most_steps,
+            pace: self.pace,
+            scheduled: queues.scheduled,
+            accesses: self.accesses,
+            ticks: self.ticks,
+        })
     }
 }

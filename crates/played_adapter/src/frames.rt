@@ -1,6 +1,6 @@
 // Lists of frames.
 
-ghost use Rattle.std.specs.Prelude.{◌≡◌, ◌++◌, ◌∷◌, ◌==◌, [], IfNone, IfOk, IfSome, OnErr, OnOk, length};
+ghost use Rattle.std.specs.Prelude.{◌≡◌, ◌++◌, ◌∷◌, ◌==◌, [], IfNone, IfSome, OnErr, OnOk, length};
 
 use std::alloc::{AllocError, Global};
 use std::collections::VecDeque;
@@ -32,14 +32,6 @@ impl Clone for WaitingFrame {
 }
 
 impl WaitingFrame {
-    /// Returns a frame with a copy of these bytes. Fails only if memory was refused.
-    fn copy_of(alloc: Global, bytes: &[u8]) -> Result<WaitingFrame, AllocError>
-        ensures { IfOk result (λ frame. frame ≡ bytes.now) }
-    {
-        let bytes = Vec::from_slice(alloc, bytes)?;
-        Ok(WaitingFrame { bytes })
-    }
-
     /// Returns the bytes of the frame.
     pub fn as_slice(&self) -> &[u8]
         ensures { result.now ≡ self.now }
@@ -102,7 +94,8 @@ impl Frames {
         ensures ok { OnOk result (self.new ≡ self.old ++ frame.now ∷ []) }
         ensures err { OnErr result (self.new ≡ self.old) }
     {
-        self.frames.push_back(WaitingFrame::copy_of(alloc, frame)?)?;
+        let bytes = Vec::from_slice(alloc, frame)?;
+        self.frames.push_back(WaitingFrame { bytes })?;
         Ok(())
     }
 

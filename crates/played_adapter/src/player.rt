@@ -1,8 +1,9 @@
 // The adapter that is played.
 
-ghost use Rattle.std.specs.Prelude.{◌≡◌, IfOk};
-ghost use Rattle.played_adapter.specs.Playing.{empty_queues, new_player, new_with_queues, new_with_room};
-ghost use Rattle.played_adapter.specs.Playing.{new_without_wire};
+ghost use Rattle.std.specs.Prelude.{◌≡◌, IfOk, nat_lt};
+ghost use Rattle.rand_core.specs.Pcg32Seed.{pcg32_seed};
+ghost use Rattle.rand_pcg.specs.Pcg.{pcg32_of_seed};
+ghost use Rattle.played_adapter.specs.Playing.{empty_queues, new_player, new_with_room, new_without_wire};
 
 use crate::frames::Frames;
 use crate::scheduling::{MOST_SCHEDULED, ScheduledStep};
@@ -72,51 +73,48 @@ impl Queues {
 
 /// Returns the address of the first byte of memory, or `None` if memory is empty.
 pub(crate) fn address_of(memory: &HostMemory) -> Option<*const u8> {
-    let Ok(bytes) = memory.view(0, 1) else {
-        return None;
-    };
-    let first = bytes.first()?;
-    Some(from_ref(first))
+    match memory.view(0, 1) {
+        Ok([first, ..]) => Some(from_ref(first)),
+        _ => None,
+    }
 }
 
 impl PlayedAdapter {
-    /// Returns this adapter with this memory, and these frames and steps that wait. Apart from these steps, no step is
-    /// played before or after an access. The generator has the seed 0. The clause states nothing about the address.
+    /// Returns this adapter with this memory. Its wire is empty, and has room for `frames` frames. If `frames` is 0,
+    /// frames that are put don't wait on the wire. No step is scheduled, and there is room for `steps` steps. No frame
+    /// is offered, and no step is played before or after an access. The generator has this seed. Fails only if memory
+    /// was refused. The clause states nothing about the address.
     #[tactic(auto, unfolding(crate::specs::Playing::new_with_queues))]
-    fn with_queues(adapter: Adapter, memory: HostMemory, queues: Queues) -> PlayedAdapter
-        ensures { result ≡ new_with_queues queues memory adapter result.address }
-    {
-        let address = address_of(&memory);
-        PlayedAdapter {
-            machine: Machine::new(adapter, memory),
-            address,
-            wire: queues.wire,
-            keeps_put: true,
-            wire_free: true,
-            offered: queues.offered,
-            generator: Lcg64Xsh32::seed_from_u64(0),
-            most_steps: 0,
-            pace: 0,
-            scheduled: queues.scheduled,
-            accesses: 0,
-            ticks: false,
-        }
-    }
-
-    /// Returns this adapter with this memory. Its wire is empty, and has room for `frames` frames. No step is
-    /// scheduled, and there is room for `steps` steps. No frame is offered, and no step is played before or after an
-    /// access. Fails only if memory was refused.
     fn with_room(
         alloc: Global,
         adapter: Adapter,
         memory: HostMemory,
         frames: u8,
         steps: usize,
+        seed: u64,
     ) -> Result<PlayedAdapter, AllocError>
-        ensures { IfOk result (λ player. player ≡ new_with_room frames steps memory adapter player.address) }
+        ensures { IfOk result (λ player. player ≡ record (new_with_room frames steps memory adapter player.address) {
+          keeps_put = nat_lt 0 frames;
+          generator = pcg32_of_seed (pcg32_seed 16 seed);
+        }) }
     {
+        let address = address_of(&memory);
+        let machine = Machine::new(adapter, memory);
         let queues = Queues::new(alloc, frames, steps)?;
-        Ok(PlayedAdapter::with_queues(adapter, memory, queues))
+        Ok(PlayedAdapter {
+            machine,
+            address,
+            wire: queues.wire,
+            keeps_put: frames > 0,
+            wire_free: true,
+            offered: queues.offered,
+            generator: Lcg64Xsh32::seed_from_u64(seed),
+            most_steps: 0,
+            pace: 0,
+            scheduled: queues.scheduled,
+            accesses: 0,
+            ticks: false,
+        })
     }
 
     /// Returns this adapter with this memory and an empty wire, on which frames that are put wait.
@@ -126,6 +124,7 @@ impl PlayedAdapter {
     /// # Errors
     ///
     /// If memory is refused.
+    #[tactic(auto, unfolding(crate::specs::Playing::new_with_queues))]
     pub fn new(
         alloc: Global,
         adapter: Adapter,
@@ -133,7 +132,7 @@ impl PlayedAdapter {
     ) -> Result<PlayedAdapter, AllocError>
         ensures { IfOk result (λ player. player ≡ new_player memory adapter player.address) }
     {
-        PlayedAdapter::with_room(alloc, adapter, memory, WIRE_FRAMES, MOST_SCHEDULED)
+        PlayedAdapter::with_room(alloc, adapter, memory, WIRE_FRAMES, MOST_SCHEDULED, 0)
     }
 
     /// Returns an adapter as [`new`](PlayedAdapter::new) does, for a caller whose observer takes the frames that are
@@ -151,9 +150,6 @@ impl PlayedAdapter {
         ensures { IfOk result (λ player. player ≡ new_without_wire memory adapter seed player.address) }
     {
         // No room for frames on the wire, or for scheduled steps.
-        let mut player = PlayedAdapter::with_room(alloc, adapter, memory, 0, 0)?;
-        player.keeps_put = false;
-        player.generator = Lcg64Xsh32::seed_from_u64(seed);
-        Ok(player)
+        PlayedAdapter::with_room(alloc, adapter, memory, 0, 0, seed)
     }
 }

@@ -8,6 +8,7 @@ ghost use Rattle.played_adapter.specs.Playing.{Paced, has_bytes};
 ghost use Rattle.played_adapter.specs.Requests.{ServesAccess, ServesArrival, ServesChoice, ServesLoad};
 ghost use Rattle.played_adapter.specs.Requests.{ServesSettle};
 
+use crate::draws::choose_below;
 use crate::observer::Observer;
 use crate::player::PlayedAdapter;
 use crate::steps::MOST_CYCLES;
@@ -93,8 +94,10 @@ impl PlayedAdapter {
             (ServesChoice limit wanted result self.old self.new) }
         ensures below { 0 < limit → result < limit }
     {
-        let number = self.choose_below(limit, wanted);
-        self.note(number > 0, Action::Choose(number), observer);
+        let number = choose_below(&mut self.generator, self.most_steps, limit, wanted);
+        if number > 0 {
+            observer.noted(Action::Choose(number));
+        }
         number
     }
 }

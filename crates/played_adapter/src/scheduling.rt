@@ -1,8 +1,7 @@
 // Scheduled steps, which are played before accesses, by the numbers of the accesses.
 
-ghost use Rattle.std.specs.Prelude.{◌≡◌, IfSome, None, slice_get};
 ghost use Rattle.played_adapter.specs.Order.{InOrder, Tells};
-ghost use Rattle.played_adapter.specs.Playing.{AnswersSchedule, PlaysScheduled, due_in, without_next};
+ghost use Rattle.played_adapter.specs.Playing.{AnswersSchedule, PlaysScheduled, due_in};
 
 use crate::observer::Observer;
 use crate::player::PlayedAdapter;
@@ -34,30 +33,18 @@ impl PlayedAdapter {
             .is_ok()
     }
 
-    /// Removes and returns the first scheduled step if this step is due before the next access. Otherwise returns
-    /// `None` and changes nothing. The next access has the number `accesses`.
-    fn take_due(&mut self) -> Option<ScheduledStep>
-        ensures step { result ≡ slice_get (due_in self.old) 0 }
-        ensures state { IfSome result (λ step. self.new ≡ without_next self.old) }
-        ensures none { result ≡ None → self.new ≡ self.old }
-    {
-        let Some(front) = self.scheduled.front() else {
-            return None;
-        };
-        let step = *front;
-        if step.access > self.accesses {
-            return None;
-        }
-        self.scheduled.pop_front();
-        Some(step)
-    }
-
     /// Removes and plays the scheduled steps that are due before the next access, in order. These are the steps in
-    /// front of the first step for a later access. Reports each step to the observer.
+    /// front of the first step for a later access. The next access has the number `accesses`. Reports each step to the
+    /// observer.
     pub(crate) fn play_scheduled<O: Observer>(&mut self, observer: &mut O)
         ensures { Tells O.heard observer.old observer.new (InOrder PlaysScheduled (due_in self.old) self.old self.new) }
     {
-        while let Some(step) = self.take_due() {
+        while let Some(front) = self.scheduled.front() {
+            let step = *front;
+            if step.access > self.accesses {
+                return;
+            }
+            self.scheduled.pop_front();
             self.step(step.kind, observer);
         }
     }

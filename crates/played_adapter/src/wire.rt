@@ -1,7 +1,7 @@
 // The wire: the frames that the adapter put, until they are taken.
 
-ghost use Rattle.std.specs.Prelude.{◌≡◌, ◌<◌, ◌++◌, length};
-ghost use Rattle.played_adapter.specs.Playing.{AnswersTaking, has_room, next_frames};
+ghost use Rattle.std.specs.Prelude.{◌≡◌};
+ghost use Rattle.played_adapter.specs.Playing.{AnswersTaking, has_room};
 
 use crate::player::PlayedAdapter;
 
@@ -16,21 +16,6 @@ impl PlayedAdapter {
         ensures { result ≡ has_room self.now }
     {
         self.wire_free && (!self.keeps_put || self.wire.len() < self.wire.capacity())
-    }
-
-    /// Appends a copy of the frame that the adapter puts next, if there is one, to the frames on the wire. Fewer frames
-    /// must wait on the wire than fit.
-    pub(crate) fn copy_next_put(&mut self)
-        requires { length self.old.wire.frames < self.old.wire.capacity }
-        ensures { self.new ≡ record self.old {
-          wire = record self.old.wire {
-            frames = self.old.wire.frames ++ next_frames self.old.machine.world.adapter.transmitter.buffer;
-          };
-        } }
-    {
-        if let Some(frame) = self.machine.to_put() {
-            self.wire.push(frame);
-        }
     }
 
     /// Moves the oldest frame from the wire to the beginning of `into`, if the frame fits.

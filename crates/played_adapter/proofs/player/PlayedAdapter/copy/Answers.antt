@@ -7,7 +7,8 @@ returns c =
     let machine : c.in_ok-machine.machine ≡ a.machine = c.in_ok-machine.ensures in
     let generator : c.in_ok-generator.generator ≡ a.generator = search rules in
     let queues = c.in_ok-queues.ensures in
+    let parts = c.into_parts-adapter.ensures in
     record {
-      world = rw (c.with_copies.ensures, machine) refl;
-      same = rw (c.with_copies.ensures, machine, generator, queues.wire, queues.offered, queues.scheduled) refl;
+      world = rw (c.new.ensures, parts.adapter, parts.memory, machine) refl;
+      same = rw (c.new.ensures, parts.adapter, parts.memory, machine, generator, queues.wire, queues.offered, queues.scheduled) refl;
     }

@@ -1,17 +1,26 @@
-use Rattle.std.proofs.Common.{refl}
-use Rattle.played_adapter.proofs.Schedules.{all_scheduled, none_scheduled, one_scheduled}
+use Rattle.std.proofs.Common.{ap, refl, sym}
+use Rattle.played_adapter.proofs.Schedules.{all_scheduled, first_is_due, first_is_late, none_scheduled, none_waits, one_scheduled}
 use Rattle.played_adapter.proofs.player.PlayedAdapter.play_scheduled.Goals as goal
 
-pub loop-step-init : goal.loop-step-init
-loop-step-init g c = none_scheduled g.O.Observer.heard g.met.O.Observer.composes c.args.self.now c.args.observer.now
+pub loop-front-init : goal.loop-front-init
+loop-front-init g c = none_scheduled g.O.Observer.heard g.met.O.Observer.composes c.args.self.now c.args.observer.now
 
-pub loop-step-preserved : goal.loop-step-preserved
-loop-step-preserved g c =
-    one_scheduled g.O.Observer.heard g.met.O.Observer.composes _ c.loop-step.self c.take_due.new.self c.step.new.self c.in-Some.step
-    c.step.result c.args.observer.now c.loop-step.observer c.step.new.observer c.loop-step.invariant c.in-Some.ensures.step
-    c.in-Some.ensures.state c.step.ensures
+pub loop-front-preserved : goal.loop-front-preserved
+loop-front-preserved g c =
+    let now = c.loop-front.self in
+    one_scheduled g.O.Observer.heard g.met.O.Observer.composes _ now _ c.step.new.self c.in-Some.front.now c.step.result
+    c.args.observer.now c.loop-front.observer c.step.new.observer c.loop-front.invariant
+    (first_is_due now.accesses now.scheduled.items c.in-Some.front.now (sym c.in-Some.ensures) c.if-step-self.false)
+    (ap (λ scheduled. record now { scheduled = scheduled }) c.pop_front.ensures.items) c.step.ensures
+
+pub returns-then-step-self : goal.returns-then-step-self
+returns-then-step-self g c =
+    let now = c.loop-front.self in
+    all_scheduled g.O.Observer.heard g.met.O.Observer.composes _ now now c.args.observer.now c.loop-front.observer c.loop-front.invariant
+    (first_is_late now.accesses now.scheduled.items c.in-Some.front.now (sym c.in-Some.ensures) c.if-step-self.true) refl
 
 pub returns : goal.returns
 returns g c =
-    all_scheduled g.O.Observer.heard g.met.O.Observer.composes _ c.loop-step.self c.take_due.new.self c.args.observer.now
-    c.loop-step.observer c.loop-step.invariant c.in_default.ensures.step (c.in_default.ensures.none refl)
+    let now = c.loop-front.self in
+    all_scheduled g.O.Observer.heard g.met.O.Observer.composes _ now now c.args.observer.now c.loop-front.observer c.loop-front.invariant
+    (none_waits now.accesses now.scheduled.items (sym c.in_default.ensures)) refl

@@ -1,9 +1,19 @@
-use Rattle.std.proofs.Common.{rules}
+use Rattle.std.proofs.Common.{rules, subst}
+use Rattle.bus.specs.declared.event.Access.TheVariants.{Reads}
+use Rattle.played_adapter.specs.Order.{Tells}
+use Rattle.played_adapter.specs.Playing.{Accessed}
+use Rattle.played_adapter.specs.declared.player.PlayedAdapter.{PlayedAdapter}
 use Rattle.played_adapter.proofs.Quiet.{quiet_access}
 use Rattle.played_adapter.proofs.player.PlayedAdapter.read.Goals as goal
 
-pub returns-then-is_quiet : goal.returns-then-is_quiet
-returns-then-is_quiet g c =
-    let quiet = c.is_quiet.ensures (search rules) in
-    quiet_access g.O.Observer.heard _ c.args.self.now c.count.new.self c.read_now.new.self c.args.observer.now c.read_now.new.observer
-    quiet.0 quiet.1 quiet.2 c.count.ensures c.read_now.ensures
+pub returns-then-count_if_quiet : goal.returns-then-count_if_quiet
+returns-then-count_if_quiet g c =
+    let quiet = c.count_if_quiet.ensures.quiet (search rules) in
+    quiet_access g.O.Observer.heard _ c.args.self.now c.count_if_quiet.new.self c.read_now.new.self
+    c.args.observer.now c.read_now.new.observer quiet.0 quiet.1 quiet.2 quiet.3 c.read_now.ensures
+
+pub returns : goal.returns
+returns g c =
+    subst (λ (a : PlayedAdapter). Tells g.O.Observer.heard c.args.observer.now c.read_after_steps.new.observer
+    (Accessed (Reads c.args.offset c.read_after_steps.result) a c.read_after_steps.new.self))
+    (c.count_if_quiet.ensures.busy (search rules)) c.read_after_steps.ensures

@@ -14,17 +14,17 @@ pub returns-then-moved-eq0 : goal.returns-then-moved-eq0
 returns-then-moved-eq0 g c =
     let heard = g.O.Observer.heard in
     settled heard g.met.O.Observer.composes c.args.most c.loop-cycle._cycle c.loop-cycle.all c.args.self.now c.loop-cycle.self
-    c.cycle-moved.new.self c.args.observer.now c.loop-cycle.observer c.cycle-moved.new.observer (omega arith)
+    c.play-moved.new.self c.args.observer.now c.loop-cycle.observer c.play-moved.new.observer (omega arith)
     c.loop-cycle.invariant.plays
-    (subst (λ (n : ℕ). Tells heard c.loop-cycle.observer c.cycle-moved.new.observer (Cycle n c.loop-cycle.self c.cycle-moved.new.self))
-    (omega arith) c.cycle-moved.ensures.plays)
+    (subst (λ (n : ℕ). Tells heard c.loop-cycle.observer c.play-moved.new.observer (Cycle n c.loop-cycle.self c.play-moved.new.self))
+    (omega arith) c.play-moved.ensures.plays)
 
 pub loop-cycle-preserved : goal.loop-cycle-preserved
 loop-cycle-preserved g c = record {
-  plays = one_cycle g.O.Observer.heard g.met.O.Observer.composes c.loop-cycle._cycle c.loop-cycle.all c.cycle-moved.result
-      c.args.self.now c.loop-cycle.self c.cycle-moved.new.self c.args.observer.now c.loop-cycle.observer c.cycle-moved.new.observer
-      c.loop-cycle.invariant.plays c.cycle-moved.ensures.plays (omega arith);
-  few = omega (arith, c.cycle-moved.ensures.few);
+  plays = one_cycle g.O.Observer.heard g.met.O.Observer.composes c.loop-cycle._cycle c.loop-cycle.all c.play-moved.result
+      c.args.self.now c.loop-cycle.self c.play-moved.new.self c.args.observer.now c.loop-cycle.observer c.play-moved.new.observer
+      c.loop-cycle.invariant.plays c.play-moved.ensures.plays (omega arith);
+  few = omega (arith, c.play-moved.ensures.few);
 }
 
 pub returns : goal.returns

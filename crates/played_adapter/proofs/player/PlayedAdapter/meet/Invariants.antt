@@ -4,7 +4,7 @@ use Rattle.step_schedules.specs.Waiting.{due_before, waiting_value}
 use Rattle.played_adapter.specs.Moves.{moves_of}
 use Rattle.played_adapter.specs.Order.{InOrder, Tells}
 use Rattle.played_adapter.specs.Playing.{Makes}
-use Rattle.played_adapter.proofs.player.PlayedAdapter.make_due.Given as goal
+use Rattle.played_adapter.proofs.player.PlayedAdapter.meet.Given as goal
 
 abbrev pub invariant-loop-one : goal.invariant-loop-one
 invariant-loop-one g l =
