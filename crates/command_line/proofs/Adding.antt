@@ -5,9 +5,10 @@ use Rattle.clap.specs.Words.{AddsArg, AddsSubcommand, App, Rule, app_of, rule_of
 use Rattle.clap.specs.declared.builder.arg.Arg.{Arg}
 use Rattle.clap.specs.declared.builder.command.Command.{Command}
 use Rattle.clap.specs.declared.builder.command.Command.TheViews.{out-Command as fields_of}
-use Rattle.command_line.specs.Arguments.{app_for, rule_for, with_rules, with_subcommands}
+use Rattle.command_line.specs.Arguments.{app_for, bare_app, rule_for, with_rules, with_subcommands}
+use Rattle.command_line.specs.Shape.{drive_app, pass_app, program_app, run_app, serve_app, show_app}
 use Rattle.command_line.specs.declared.command.Argument.{Argument}
-use Rattle.command_line.specs.declared.command.Subcommand.{Subcommand}
+use Rattle.command_line.specs.declared.command.CommandRow.{CommandRow}
 
 abbrev pub IsLocal : Command → Type 0
 IsLocal command = (fields_of command).has_globals ≡ false
@@ -44,7 +45,7 @@ with_last_command : (app : App) (commands : List App) (command : App)
 with_last_command app [] command = refl
 with_last_command app (first ∷ commands) command = with_last_command (with_subcommand app first.top) commands command
 
-pub with_command : (old new command : Command) (app : App) (source : List Subcommand) (i : ℕ) (d : Subcommand) → i < length source
+pub with_command : (old new command : Command) (app : App) (source : List CommandRow) (i : ℕ) (d : CommandRow) → i < length source
     → AddsSubcommand old command new → IsLocal command → app_of command ≡ app_for (get_or source i d)
     → app_of old ≡ with_subcommands app (map app_for (take i source))
     → app_of new ≡ with_subcommands app (map app_for (take (i + 1) source))
@@ -55,3 +56,15 @@ with_command old new command app source i d below adds local is so_far =
 
 pub local_command : (old new command : Command) → AddsSubcommand old command new → IsLocal command → IsLocal old → IsLocal new
 local_command old new command adds local is = adds.globals ∙ neither _ _ is local
+
+-- the program with rows for each of its subcommands
+pub whole_program : (pass run show serve drive : CommandRow) → app_for pass ≡ pass_app → app_for run ≡ run_app
+    → app_for show ≡ show_app → app_for serve ≡ serve_app → app_for drive ≡ drive_app
+    → with_subcommands bare_app (map app_for (pass ∷ run ∷ show ∷ serve ∷ drive ∷ [])) ≡ program_app
+unfolding program_app
+whole_program pass run show serve drive is_pass is_run is_show is_serve is_drive =
+    let with_first = ap (λ (a : App). with_subcommand bare_app a.top) is_pass in
+    let with_second = ap₂ (λ (a b : App). with_subcommand a b.top) with_first is_run in
+    let with_third = ap₂ (λ (a b : App). with_subcommand a b.top) with_second is_show in
+    let with_fourth = ap₂ (λ (a b : App). with_subcommand a b.top) with_third is_serve in
+    ap₂ (λ (a b : App). with_subcommand a b.top) with_fourth is_drive

@@ -1,15 +1,16 @@
 -- The results of clap's getters, and the texts in its matches.
 use Rattle.std.specs.Borrow.{Bor}
-use Rattle.std.specs.Prelude.{Option, Some, None, option_map, IsSome, codes}
-use Rattle.std.proofs.Common.{◌≡◌, ◌∙◌, Bool, ap, refl, subst, sym, true≢false}
+use Rattle.std.specs.Prelude.{Option, Some, None, option_map, IsSome, codes, Result, Ok, Err, IfErr, IsErrAnd, List}
+use Rattle.std.proofs.Common.{◌≡◌, ◌∙◌, Bool, ap, refl, subst, sym, true, true≢false}
 use Rattle.std.specs.Option.{option_eq}
 use Rattle.std.specs.Str.{bytes_eq}
 use Rattle.std.proofs.lemmas.Slice.Eq.{bytes_eq-Decides}
 use Rattle.std.proofs.lemmas.Option.{same_Some}
 use Rattle.clap.proofs.WalkLemmas.{first_value-rows}
-use Rattle.clap.specs.Words.{Text, first_of, first_value, rows_of}
+use Rattle.clap.specs.Words.{Row, Text, first_of, first_value, rows_of}
 use Rattle.clap.specs.declared.parser.matches.Found.{Found}
-use Rattle.command_line.specs.Jobs.{IsFlagOf, IsValueOr}
+use Rattle.command_line.specs.Jobs.{IsFlagOf, IsMisspelled, IsMisspelledAs, IsMisspelledOf, IsValueOr, has_option}
+use Rattle.command_line.specs.declared.job.ValueOption.{ValueOption}
 
 pub text_of : (found : Found) (id : Text) (got : Option (Bor Text)) → option_map (λ s. s.now) got ≡ first_value found id
     → first_of id (rows_of found) ≡ option_map (λ s. s.now) got
@@ -56,3 +57,13 @@ pub unspelled_here : (P : Text → Type 0) (first : Option Text) (text here : Te
     → ¬ P here
 unspelled_here P first text here unspelled e f =
     subst (λ (t : Text). ¬ P t) (same_Some text here (sym e ∙ f)) unspelled
+
+-- an option that was misspelled is returned as the error of a subcommand that has the option
+pub refused_of : {T : Type 0} (name : Text) (rows : List Row) (wanted refused : ValueOption) (r : Result T ValueOption)
+    → has_option name wanted ≡ true → IsMisspelledAs wanted rows refused → IsErrAnd r (λ made. made ≡ refused)
+    → IfErr r (IsMisspelledOf name rows)
+refused_of name rows wanted refused (Ok x) has wrong same = tt
+refused_of name rows wanted refused (Err made) has wrong same = (
+  ap (has_option name) (same ∙ wrong.0) ∙ has,
+  subst (λ (option : ValueOption). IsMisspelled rows option) (sym same) wrong.1,
+)

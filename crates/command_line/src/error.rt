@@ -78,8 +78,10 @@ impl fmt::Display for InvalidValue<'_> {
         let form = form_of(self.option);
         let text = self.text;
         // `form` contains the quotation mark that closes the option and its value.
-        writeln!(f, "error: invalid value '{text}' for '--{name} {form}")?;
-        f.write_str("\nFor more information, try '--help'.\n")
+        write!(
+            f,
+            "error: invalid value '{text}' for '--{name} {form}\n\nFor more information, try '--help'.\n"
+        )
     }
 }
 

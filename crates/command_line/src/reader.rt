@@ -8,7 +8,7 @@ ghost use Rattle.command_line.specs.Shape.{found_in, refusals};
 ghost use Rattle.command_line.specs.declared.error.LineError.TheVariants.{NotUnicode};
 
 use crate::adapter_jobs::{drive_job, serve_job};
-use crate::command::{SUBCOMMANDS, program_with};
+use crate::command::program;
 use crate::trace_jobs::{pass_job, run_job};
 use crate::values::{invalid, path};
 use crate::{Job, LineError, ShowJob, ValueOption};
@@ -46,7 +46,7 @@ fn matches_of<'a, S: AsStr>(alloc: Global, words: &'a [S]) -> Result<ArgMatches<
         × (subcommand_rows_of matches ≡ found_in (map S.text words.entry.now))) }
     ensures refused { IfErr result (IsRefusedBy (refusals (map S.text words.entry.now))) }
 {
-    let command = program_with(alloc, &SUBCOMMANDS)?;
+    let command = program(alloc)?;
     let matches = command.try_get_matches_from(words)?;
     Ok(matches)
 }

@@ -1,8 +1,8 @@
 //! The jobs of `pass` and `run`, from clap's matches for their options and files.
 ghost use Rattle.std.specs.Prelude.{IfErr, IfOk, codes};
 ghost use Rattle.clap.specs.Words.{found_of, rows_of};
-ghost use Rattle.command_line.specs.Jobs.{HasBounds, HasFiles, HasScenario, IsJobOf, IsMisspelledOf};
-ghost use Rattle.command_line.specs.Jobs.{IsPassFilterOf, IsRunJobOf, IsValueOf, IsWithinBounds, text_in};
+ghost use Rattle.command_line.specs.Jobs.{HasBounds, HasFiles, HasScenario, IsJobOf, IsMisspelledOf, IsRunJobOf};
+ghost use Rattle.command_line.specs.Jobs.{IsValueOf, text_in};
 ghost use Rattle.command_line.specs.Spelling.{SpellsVlan};
 
 use crate::values::{address, flag, number, path, text};
@@ -23,19 +23,6 @@ fn vlan(matches: &ArgMatches<'_>) -> Result<Option<u16>, ValueOption>
     }
 }
 
-/// Returns the filter of a `pass` with these matches. Fails with an option whose text is invalid.
-fn filter(matches: &ArgMatches<'_>) -> Result<PassFilter, ValueOption>
-    ensures bounds { IfOk result IsWithinBounds }
-    ensures filter { IfOk result (IsPassFilterOf (rows_of (found_of matches.now))) }
-    ensures refused { IfErr result (IsMisspelledOf (codes "pass") (rows_of (found_of matches.now))) }
-{
-    Ok(PassFilter {
-        address: address(matches, ValueOption::Address)?,
-        group: address(matches, ValueOption::Group)?,
-        vlan: vlan(matches)?,
-    })
-}
-
 /// Returns the job of a `pass` with these matches, which must contain the paths of both files. Fails with an option
 /// whose text is invalid.
 pub(crate) fn pass_job<'a>(matches: &ArgMatches<'a>) -> Result<Job<'a>, ValueOption>
@@ -44,9 +31,12 @@ pub(crate) fn pass_job<'a>(matches: &ArgMatches<'a>) -> Result<Job<'a>, ValueOpt
     ensures job { IfOk result (IsJobOf (codes "pass", rows_of (found_of matches.now))) }
     ensures refused { IfErr result (IsMisspelledOf (codes "pass") (rows_of (found_of matches.now))) }
 {
-    let filter = filter(matches)?;
     Ok(Job::Pass(PassJob {
-        filter,
+        filter: PassFilter {
+            address: address(matches, ValueOption::Address)?,
+            group: address(matches, ValueOption::Group)?,
+            vlan: vlan(matches)?,
+        },
         input: path(matches, "IN"),
         output: path(matches, "OUT"),
         nanos: flag(matches, "nanos"),

@@ -17,7 +17,7 @@ loop-argument-preserved c =
     let old = c.loop-argument.command in
     let arg = c.clap_argument.result in
     record {
-      app = with_argument old _ arg (new_app c.args.subcommand.now.0.now) c.args.subcommand.now.3.now
+      app = with_argument old _ arg (new_app c.args.row.now.0.now) c.args.row.now.3.now
           c.loop-argument.argument-index _ (omega arith) c.in_ok-command.ensures c.clap_argument.ensures.local c.clap_argument.ensures.rule
           c.loop-argument.invariant.app;
       local = local_argument old _ arg c.in_ok-command.ensures c.clap_argument.ensures.local c.loop-argument.invariant.local;
@@ -26,8 +26,8 @@ loop-argument-preserved c =
 pub returns-clause-app : goal.returns-clause-app
 returns-clause-app c =
     c.loop-argument.invariant.app
-    ∙ ap (λ arguments. with_rules (new_app c.args.subcommand.now.0.now) (map rule_for arguments))
-    (take_all c.loop-argument.argument-index c.args.subcommand.now.3.now (omega arith))
+    ∙ ap (λ arguments. with_rules (new_app c.args.row.now.0.now) (map rule_for arguments))
+    (take_all c.loop-argument.argument-index c.args.row.now.3.now (omega arith))
 
 pub returns-clause-no_globals : goal.returns-clause-no_globals
 returns-clause-no_globals c = c.loop-argument.invariant.local

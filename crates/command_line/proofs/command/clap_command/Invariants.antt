@@ -8,6 +8,6 @@ use Rattle.command_line.proofs.command.clap_command.Given as goal
 abbrev pub invariant-loop-argument : goal.invariant-loop-argument
 invariant-loop-argument l = record {
   app : app_of l.command
-      ≡ with_rules (new_app l.subcommand.0.now) (map rule_for (take l.argument-index l.subcommand.3.now));
+      ≡ with_rules (new_app l.row.0.now) (map rule_for (take l.argument-index l.row.3.now));
   local : (fields_of l.command).has_globals ≡ false;
 }

@@ -2,7 +2,7 @@ use Rattle.std.proofs.Common.{◌≡◌, ◌∙◌, ap, subst, sym}
 use Rattle.clap.proofs.CallerLemmas.{subcommand_required}
 use Rattle.clap.specs.Faults.{is_simple_and_free}
 use Rattle.clap.specs.Kinds.{HasKind, Kinds}
-use Rattle.command_line.specs.Shape.{drive_app, pass_app, program_app, refusals, run_app, serve_app, show_app}
+use Rattle.command_line.specs.Shape.{program_app, refusals}
 use Rattle.clap.specs.Simple.{App, is_simple}
 use Rattle.std.specs.Prelude.{map}
 use Rattle.clap.specs.Words.{app_of}
@@ -10,7 +10,6 @@ use Rattle.command_line.proofs.Commands.{found_is, needs_subcommand, refusals_ar
 use Rattle.command_line.proofs.reader.matches_of.Goals as goal
 
 pub returns-in_err-matches-clause-refused : goal.returns-in_err-matches-clause-refused
-unfolding program_app pass_app run_app show_app serve_app drive_app
 returns-in_err-matches-clause-refused g c =
     let is : app_of c.in_ok-command.command ≡ program_app = c.in_ok-command.ensures.app in
     let words = map g.S.AsStr.text c.args.words.now in
@@ -21,7 +20,6 @@ returns-in_err-matches-clause-refused g c =
     c.from_residual-in_err-matches.ensures.1
 
 pub returns-clause-taken : goal.returns-clause-taken
-unfolding program_app pass_app run_app show_app serve_app drive_app
 returns-clause-taken g c =
     let is : app_of c.in_ok-command.command ≡ program_app = c.in_ok-command.ensures.app in
     let words = map g.S.AsStr.text c.args.words.now in
@@ -29,7 +27,6 @@ returns-clause-taken g c =
     ∙ c.in_ok-matches.ensures.kinds (ap is_simple_and_free is ∙ simple_and_free)
 
 pub returns-clause-found : goal.returns-clause-found
-unfolding program_app pass_app run_app show_app serve_app drive_app
 returns-clause-found g c =
     let is : app_of c.in_ok-command.command ≡ program_app = c.in_ok-command.ensures.app in
     let words = map g.S.AsStr.text c.args.words.now in
