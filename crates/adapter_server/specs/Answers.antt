@@ -212,14 +212,22 @@ enabled_with works wire_free = record {
   phy = works kinds.PhyTick;
 }
 
--- The kinds of steps whose outcome now would be neither `Nothing` nor `WireFull` are the answer.
-pub record AnswersEnabled (a b : Session) (text : Text) : Type 0 where
+-- These are the kinds of steps whose outcome now would be neither `Nothing` nor `WireFull`.
+pub record CanStep (device : PlayedAdapter) (enabled : EnabledSteps) : Type 0 where
   -- whether a step of this kind has another outcome than `Nothing`, whatever is in memory and on the wire
   pub works : StepKind → Bool
   -- `TellsWork` holds of `works` for each kind
-  pub each : (kind : StepKind) → TellsWork kind (works kind) a.device.machine.world.adapter
+  pub each : (kind : StepKind) → TellsWork kind (works kind) device.machine.world.adapter
+  -- the kinds for which `works` is true, but `txput` only if the wire is free
+  pub same : enabled ≡ enabled_with works device.wire_free
+
+-- The kinds of steps whose outcome now would be neither `Nothing` nor `WireFull` are the answer.
+pub record AnswersEnabled (a b : Session) (text : Text) : Type 0 where
+  -- these kinds
+  pub enabled : EnabledSteps
+  pub steps : CanStep a.device enabled
   -- the line of these kinds is the answer
-  pub replies : Replies (enabled_line (enabled_with works a.device.wire_free)) a b text
+  pub replies : Replies (enabled_line enabled) a b text
 
 -- The name of the target at this place is the answer. Without a place, the request is refused.
 abbrev pub AnswersTarget : Result AccessPlace Refusal → (address : ℕ) → Session → Session → Text → Type 0

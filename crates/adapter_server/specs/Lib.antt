@@ -3,6 +3,5 @@ pub mod Defaults
 pub mod Sessions
 pub mod NewSessions
 pub mod Answers
-pub mod Enabled
 pub mod Serving
 pub mod Tasks

@@ -1,7 +1,6 @@
 // Answers that report state.
 
-ghost use Rattle.adapter_server.specs.Answers.{Looks, TellsAnswer};
-ghost use Rattle.adapter_server.specs.Enabled.{CanStep};
+ghost use Rattle.adapter_server.specs.Answers.{CanStep, Looks, TellsAnswer};
 
 use crate::session::Session;
 use crate::task::target_at;

@@ -4,7 +4,7 @@ use Rattle.access_names.specs.Names.{target_text}
 use Rattle.access_names.specs.declared.engine_fault.EngineFault.{EngineFault}
 use Rattle.server_output.specs.Texts.{enabled_line, faults_line, ok_line, rings_line, word_line}
 use Rattle.registers.specs.Ports.{port_answer}
-use Rattle.adapter_server.specs.Answers.{AnswersEnabled, AnswersFaults, AnswersRings, AnswersTarget, Replies, TellsAnswer, enabled_with}
+use Rattle.adapter_server.specs.Answers.{AnswersEnabled, AnswersFaults, AnswersRings, AnswersTarget, Replies, TellsAnswer}
 use Rattle.adapter_server.specs.Answers.{line_number}
 use Rattle.adapter_server.specs.Sessions.{place_in, target_at_place}
 use Rattle.adapter_server.specs.declared.session.Session.{Session}
@@ -60,12 +60,11 @@ returns-in-Intercept g c = rw c.in-Intercept.is (replied c.say.result ok_line c.
 pub returns-in-Enabled : goal.returns-in-Enabled
 returns-in-Enabled g c =
     let a = c.args.session.now in
-    let steps = c.enabled_steps.ensures in
-    let line = enabled_line (enabled_with steps.works a.device.wire_free) in
+    let line = enabled_line c.enabled_steps.result in
     rw c.in-Enabled.is
     (answer_so c.say_enabled.result (Replies line a) (AnswersEnabled a) (λ (b : Session). b) a _ _
-    (λ b text replies. record { works = steps.works; each = steps.each; replies = replies })
-    (replied c.say_enabled.result line a _ _ (rw steps.same at c.say_enabled.ensures)))
+    (λ b text replies. record { enabled = c.enabled_steps.result; steps = c.enabled_steps.ensures; replies = replies })
+    (replied c.say_enabled.result line a _ _ c.say_enabled.ensures))
 
 pub returns-in-Ok : goal.returns-in-Ok
 returns-in-Ok g c =
