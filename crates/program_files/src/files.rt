@@ -124,27 +124,40 @@ pub fn read_traces<R: Files + Input + Watched + AllocGlobal>(
     Ok(traces)
 }
 
-/// Reads the first `limit` bytes of the file at a path, or all bytes of a shorter file. Bytes that are appended after
-/// the file was opened aren't read. `limit` doesn't apply to standard input, if the path is `-`, and to pipes: they are
-/// read to their end. Fails with [`Pipe`](FileError::Pipe) if standard input or a pipe is too long.
-pub fn read_front<R: Files + Input + AllocGlobal>(
+/// Reads the file at a path: its first `limit` bytes, or without a limit the bytes that it had when it was opened.
+/// `limit` doesn't apply to standard input, if the path is `-`, and to pipes: they are read to their end. Fails with
+/// [`Pipe`](FileError::Pipe) if standard input or a pipe is too long.
+fn read_input<R: Files + Input + AllocGlobal>(
     rt: &R,
     path: &str,
-    limit: u64,
+    limit: Option<u64>,
 ) -> Result<Vec<u8>, FileError> {
     match open(rt, path) {
-        Ok(Opened::File(file, length)) => read_up_to(rt.alloc(), path, file, length.min(limit)),
+        Ok(Opened::File(file, length)) => {
+            read_up_to(rt.alloc(), path, file, limit.unwrap_or(length))
+        }
         Ok(Opened::Piped(bytes)) => Ok(bytes),
         Err(error) => Err(error),
     }
 }
 
-/// Reads all bytes of the input at a path, or of standard input if the path is `-`, as by [`read_front`].
+/// Reads all bytes of the input at a path, or of standard input if the path is `-`. Bytes that are appended after a
+/// file was opened aren't read. Fails with [`Pipe`](FileError::Pipe) if standard input or a pipe is too long.
 pub fn read_bytes<R: Files + Input + AllocGlobal>(
     rt: &R,
     path: &str,
 ) -> Result<Vec<u8>, FileError> {
-    read_front(rt, path, u64::MAX)
+    read_input(rt, path, None)
+}
+
+/// Reads the first `limit` bytes of the file at a path, or all bytes of a shorter file. `limit` doesn't apply to
+/// standard input (`-`) and pipes, which are read as by [`read_bytes`].
+pub fn read_front<R: Files + Input + AllocGlobal>(
+    rt: &R,
+    path: &str,
+    limit: u64,
+) -> Result<Vec<u8>, FileError> {
+    read_input(rt, path, Some(limit))
 }
 
 /// Reads a trace from a file or a pipe with a path. The path `-` is refused.

@@ -30,7 +30,9 @@ pub struct WholeFile<F> {
 /// A part: a new file that replaces an output.
 #[derive(Drop)]
 struct Part<F> {
+    /// The file, which was opened for writing.
     file: F,
+    /// The path of the file.
     path: String,
 }
 
@@ -69,8 +71,8 @@ fn new_part<R: Files + AllocGlobal>(
         return Ok(None);
     }
     for number in 0..MOST_PARTS {
-        let name = format!(in rt.alloc(); "{path}.part{number}")?;
-        match part_at(rt, name) {
+        let part = format!(in rt.alloc(); "{path}.part{number}")?;
+        match part_at(rt, part) {
             NewPart::Made(part) => return Ok(Some(part)),
             NewPart::Taken => {}
             NewPart::Refused => return Ok(None),
@@ -89,17 +91,13 @@ fn take_permissions<F: OpenFile>(part: &F, old: &Metadata) -> bool {
     is_same && part.set_permissions(old.permissions()).is_ok()
 }
 
-/// Makes a part with the owner, the group and the permissions of the file that it replaces. Returns `None` if no such
-/// part can be made. Fails if the file can't be opened for writing, or if memory is refused.
+/// Makes a part with the owner, the group and the permissions of the file that it replaces. Returns `None` if no part
+/// can be made, or if these can't be set; then the part is removed. Fails only if memory is refused.
 fn part_like<R: Files + AllocGlobal>(
     rt: &R,
     path: &str,
     old: &Metadata,
-) -> Result<Option<Part<R::File>>, FileError> {
-    // Even if a part replaces the file, the file must be writable.
-    if OpenOptions::new().write(true).open(rt, path).is_err() {
-        return Err(FileError::open(rt.alloc(), path));
-    }
+) -> Result<Option<Part<R::File>>, AllocError> {
     let Some(part) = new_part(rt, path)? else {
         return Ok(None);
     };
@@ -154,18 +152,23 @@ impl<F: OpenFile + std::io::Write + Drop> WholeFile<F> {
     }
 }
 
-/// Makes a part for an output that is replaced: a plain file with one hard link, or a new file. Returns `None` for any
-/// other output, and if no part can be made.
-fn part_for<R: Files + AllocGlobal>(
+/// Opens a plain file with one hard link. Its new bytes are written into a part, or in place if no part can be made.
+/// The sink's count of failures is 0.
+fn open_replaceable<R: Files + AllocGlobal>(
     rt: &R,
     path: &str,
-) -> Result<Option<Part<R::File>>, FileError> {
-    match fs::symlink_metadata(rt, path) {
-        Ok(old) if old.is_file() && old.nlink() == 1 => part_like(rt, path, &old),
-        Err(error) if error.kind() == ErrorKind::NotFound => {
-            new_part(rt, path).map_err(FileError::from)
-        }
-        _ => Ok(None),
+    old: &Metadata,
+) -> Result<WholeFile<R::File>, FileError>
+    ensures { IfOk result (λ file. ⟦<FileSink<R::File> as Sink>⟧.failures file.sink ≡ 0) }
+{
+    // Even if a part replaces the file, the file must be writable.
+    let Ok(file) = OpenOptions::new().write(true).open(rt, path) else {
+        return Err(FileError::open(rt.alloc(), path));
+    };
+    match part_like(rt, path, old) {
+        Ok(Some(part)) => Ok(WholeFile::new(LateFile::new(part.file), Some(part.path))),
+        Ok(None) => Ok(WholeFile::new(LateFile::new(file), None)),
+        Err(AllocError) => Err(FileError::Memory),
     }
 }
 
@@ -179,8 +182,14 @@ pub fn create_whole<R: Files + AllocGlobal>(
 ) -> Result<WholeFile<R::File>, FileError>
     ensures { IfOk result (λ file. ⟦<FileSink<R::File> as Sink>⟧.failures file.sink ≡ 0) }
 {
-    match part_for(rt, path)? {
-        Some(Part { file, path }) => Ok(WholeFile::new(LateFile::new(file), Some(path))),
+    let part = match fs::symlink_metadata(rt, path) {
+        Ok(old) if old.is_file() && old.nlink() == 1 => return open_replaceable(rt, path, &old),
+        Err(error) if error.kind() == ErrorKind::NotFound => new_part(rt, path)?,
+        // Any other output isn't replaced.
+        _ => None,
+    };
+    match part {
+        Some(part) => Ok(WholeFile::new(LateFile::new(part.file), Some(part.path))),
         None => Ok(WholeFile::new(create_file(rt, path)?, None)),
     }
 }

@@ -21,6 +21,7 @@ use Rattle.scenario_bench.specs.declared.bench_error.BenchError.TheVariants as b
 use Rattle.step_schedules.specs.declared.schedule_error.ScheduleError.{ScheduleError}
 use Rattle.step_schedules.specs.declared.schedule_error.ScheduleError.TheVariants as schedules
 use Rattle.program_jobs.specs.Codes.{status_of_code}
+use Rattle.program_jobs.specs.declared.codes.Code.TheVariants as codes
 use Rattle.program_jobs.specs.declared.fault.Detail.{Detail}
 use Rattle.program_jobs.specs.declared.fault.Detail.TheVariants as details
 use Rattle.program_jobs.specs.declared.fault.Fault.{Fault}
@@ -38,9 +39,9 @@ abbrev pub IsPath : List ℕ → Detail → Type 0
 IsPath path (details.Path text) = string_bytes text ≡ path
 IsPath path _ = ⊥
 
--- The fault of an output at this path that is also another file of a run. The status is 4 if memory for the path was refused.
+-- the fault of an output at this path that is also another file of the run (E73); the status is 4 if memory for the path was refused
 abbrev pub IsUsed : List ℕ → Fault → Type 0
-IsUsed path fault = ((status_of_code fault.code ≡ 3) × IsPath path fault.detail) ⊎ HasStatusAndDetail 4 no_detail fault
+IsUsed path fault = ((fault.code ≡ codes.E73) × IsPath path fault.detail) ⊎ HasStatusAndDetail 4 no_detail fault
 
 -- the status of an input that isn't a trace, can't be read, or for which memory was refused
 abbrev pub status_of_input : ReadError → ℕ
