@@ -223,8 +223,9 @@ pub record CanStep (device : PlayedAdapter) (enabled : EnabledSteps) : Type 0 wh
 
 -- The kinds of steps whose outcome now would be neither `Nothing` nor `WireFull` are the answer.
 pub record AnswersEnabled (a b : Session) (text : Text) : Type 0 where
-  -- these kinds
+  -- the kinds of steps that the answer contains
   pub enabled : EnabledSteps
+  -- these are the kinds whose outcome would be neither `Nothing` nor `WireFull`
   pub steps : CanStep a.device enabled
   -- the line of these kinds is the answer
   pub replies : Replies (enabled_line enabled) a b text
