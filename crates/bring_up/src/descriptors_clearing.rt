@@ -1,40 +1,17 @@
 //! How descriptors are cleared, so that no descriptor has DD set by old bytes in memory.
 
-ghost use Rattle.std.specs.Prelude.{◌≡◌, ◌+◌, ◌-◌, ◌*◌, ◌<◌, ◌≤◌, ◌∷◌, ℕ, Bool, [], false, length};
+ghost use Rattle.std.specs.Prelude.{◌≡◌, ◌+◌, ◌*◌, ◌<◌, ◌≤◌, ℕ, Bool, false, length};
 ghost use Rattle.dma_memory.specs.Layout.{descriptor_bytes};
 ghost use Rattle.bus.specs.Keeping.{Keeps};
 ghost use Rattle.bus.specs.Calls.{IsReadyOver, Ran, at, only};
 ghost use Rattle.bus.specs.DriverState.{DriverState, address_limit, receive_slot, transmit_slot};
-ghost use Rattle.bring_up.specs.ClearedDescriptors.{clears, clears_from};
+ghost use Rattle.bring_up.specs.ClearedDescriptors.{clears_from};
 
 use bus::Bus;
 use dma_memory::DESCRIPTOR_BYTES;
 
 /// The 16 bytes of a cleared descriptor, all 0.
 const CLEAR: [u8; 16] = [0; 16];
-
-/// Clears the descriptor at an address, by one store of 16 bytes of value 0. The descriptor must be inside memory. A
-/// driver that is ready remains ready in three cases.
-/// - `sent`: the descriptor belongs to the transmit ring, and the transmit side is off.
-/// - `received`: the descriptor is that of the last receive slot, and the driver's oldest receive slot is slot 0.
-/// - `spare`: the descriptor is that of a receive slot that is neither outstanding nor staged, and the driver's oldest
-///   receive slot is slot 0.
-pub fn clear_descriptor<B: Bus>(bus: &mut B, address: u64)
-    requires { address + descriptor_bytes ≤ B.extent bus.old }
-    ensures keeps { Keeps B.Bus bus.old bus.new }
-    ensures sent { (d : DriverState) (slot : ℕ) → IsReadyOver B.Bus false (at bus.old d)
-        → slot < d.layout.tx → address ≡ transmit_slot d.layout slot
-        → Ran B.Bus false (only (clears address ∷ [])) (at bus.old d) (at bus.new d) }
-    ensures received { (up : Bool) (d : DriverState) → IsReadyOver B.Bus up (at bus.old d)
-        → d.oldest_receive ≡ 0 → address ≡ receive_slot (d.layout.rx - 1)
-        → Ran B.Bus up (only (clears address ∷ [])) (at bus.old d) (at bus.new d) }
-    ensures spare { (up : Bool) (d : DriverState) (slot : ℕ) → IsReadyOver B.Bus up (at bus.old d)
-        → d.oldest_receive ≡ 0 → length d.buffers + length d.staged ≤ slot → slot < d.layout.rx
-        → address ≡ receive_slot slot
-        → Ran B.Bus up (only (clears address ∷ [])) (at bus.old d) (at bus.new d) }
-{
-    bus.store(address, &CLEAR);
-}
 
 /// Clears `count` descriptors from the address `first` on, by one store each. The descriptors must be inside memory,
 /// and end below address 2^64. A driver that is ready remains ready in two cases.
@@ -54,6 +31,6 @@ pub fn clear_descriptors<B: Bus>(bus: &mut B, first: u64, count: u16)
         → Ran B.Bus up (only (clears_from first count)) (at bus.old d) (at bus.new d) }
 {
     for slot in 0..count {
-        clear_descriptor(bus, first + DESCRIPTOR_BYTES * u64::from(slot));
+        bus.store(first + DESCRIPTOR_BYTES * u64::from(slot), &CLEAR);
     }
 }

@@ -24,7 +24,7 @@ pub use configured_law::writes_configure;
 pub use controls::{
     allocate_packet_buffer, enable_interrupts, interrupt_causes, reset_device, set_link_up,
 };
-pub use descriptors_clearing::{clear_descriptor, clear_descriptors};
+pub use descriptors_clearing::clear_descriptors;
 pub use device::find_device;
 pub use eeprom_reading::read_image;
 pub use filter_setting::{named_vlans, set_filter};

@@ -46,7 +46,7 @@ fn action_of(form: Form) -> ArgAction
 {
     match form {
         Form::Flag => ArgAction::SetTrue,
-        _ => ArgAction::Set,
+        Form::Value | Form::Required | Form::File => ArgAction::Set,
     }
 }
 
@@ -63,8 +63,7 @@ fn clap_argument<'a>(alloc: Global, argument: &Argument<'a>) -> Arg<'a>
     match form {
         Form::File => arg,
         Form::Flag => arg.long(name),
-        // An option with a value.
-        _ => arg.long(name).value_name(value),
+        Form::Value | Form::Required => arg.long(name).value_name(value),
     }
 }
 

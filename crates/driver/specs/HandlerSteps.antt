@@ -1,6 +1,5 @@
 -- How a driver takes frames off its receive ring, reads a received frame, and handles an interrupt. The contract of `interrupt` uses
--- `Handles`, `ServesReceiver` and `OnlyReceives`. The contract of `take_finished` uses `TakesAll` and `TakesSlots`, and that of `read`
--- uses `ReadsHeld`.
+-- `Handles`, `ServesReceiver` and `OnlyReceives`, that of `take_finished` uses `TakesAll` and `TakesSlots`, and that of `read` `ReadsHeld`.
 use Rattle.std.specs.Prelude.{⊤, ◌≡◌, ◌≤◌, ◌⊎◌, ◌-◌, ◌*◌, ◌++◌, ◌∷◌, []}
 use Rattle.std.specs.Prelude.{ℕ, suc, Bool, not, All, List, count_by, filter, flat_map, length, map}
 use Rattle.std.specs.Prelude.{IsTrue, min, sum, take}
@@ -15,9 +14,8 @@ use Rattle.bus.specs.declared.bus.Bus.{Ghosts}
 use Rattle.bus.specs.declared.event.Access.{Access}
 use Rattle.bus.specs.declared.event.Access.TheVariants.{Reads}
 use Rattle.bus.specs.Calls.{Did, FlowsTo, HasNoForgottenWork, IsReadyOver, IsRefilled, Moment, Ran, ReadsCauses, at, call_did}
-use Rattle.bus.specs.Calls.{driver_did}
-use Rattle.bus.specs.Calls.{ether_type_load, frames_ended, held_at, in_world_of, only, receive_loads, stores_from, tail_write}
-use Rattle.bus.specs.Calls.{takes_from, missed_added}
+use Rattle.bus.specs.Calls.{driver_did, ether_type_load, frames_ended, held_at, in_world_of, missed_added, only, receive_loads}
+use Rattle.bus.specs.Calls.{stores_from, tail_write, takes_from}
 use Rattle.bus.specs.DriverState.{DriverState, HandedOut, frame_of, holding, next_receive, piece_numbers, owners}
 use Rattle.bus.specs.ReceiveSteps.{after_slots}
 use Rattle.driver.specs.Parts.{AreFrames, FillBuffers, FitIntoBuffers, IsFrameSize, IsWholeFrame, buffers_in, buffers_of}
@@ -99,8 +97,7 @@ pub record AreFramesOf (runs : List RunOfSlots) (received : List Received) : Typ
   -- each frame has a legal length, which is the sum of the sizes of its pieces, and each piece fits into a buffer
   pub sizes : AreFrames received
 
--- The frames of the whole runs were shown to the receiver, in order. The receiver kept none, some or all of these
--- frames.
+-- The frames of the whole runs were shown to the receiver, in order. The receiver kept none, some or all of these frames.
 pub record ShowsRuns {R : Type 0} (took : R → R → List Received → List Received → Type 0) (before after : R) (runs : List RunOfSlots)
     : Type 0 where
   -- the frames shown
@@ -139,8 +136,8 @@ pub record LeavesRing (run : Run) (parts : List Part) (d d' : DriverState) : Typ
   -- the oldest slot is the slot after the run, and otherwise only the outstanding slots changed
   pub others : d' ≡ after_slots d run.count d'.buffers d.handed_out
 
--- The parts have the lengths of the run, and the length of the run is their sum. If the run is whole, its length is
--- legal, and each of its parts fits into a buffer.
+-- The parts have the lengths of the run, and the length of the run is their sum. If the run is whole, its length is legal, and each of its
+-- parts fits into a buffer.
 pub record HasParts (run : Run) (parts : List Part) : Type 0 where
   pub lengths : lengths_in parts ≡ take run.count run.lengths
   pub length_is : run.length ≡ sum (lengths_in parts)
@@ -334,12 +331,10 @@ pub record ReadsMisses (d d' : DriverState) : Type 0 where
   pub misses : ℕ
   -- the sum grew by this value, up to the greatest u64
   pub missed : d'.missed ≡ (missed_added misses d).missed
-  -- the sum is exact if and only if it was exact before, the value is below MPC's greatest value, and the sum didn't
-  -- saturate
+  -- the sum is exact if and only if it was exact before, the value is below MPC's greatest value, and the sum didn't saturate
   pub exact : d'.exact ≡ (missed_added misses d).exact
 
--- The oldest slots, with the buffers `taken`, left the ring. After the remaining slots, the staged slots and new slots were offered. No run
--- was bad.
+-- The oldest slots, with the buffers `taken`, left the ring. The staged slots and new slots were offered. No run was bad.
 pub record TakesAndOffers (d d' : DriverState) (taken : List ℕ) : Type 0 where
   -- the buffers of the slots that weren't taken
   pub rest : List ℕ
@@ -433,8 +428,7 @@ pub record Handles {B R : Type 0} (bus : Ghosts B) (receivers : OfReceiver R) (r
 
 -- Over any bus
 
--- Only the driver's receive side and its counts may change: the layout, the outstanding transmit slots, the setup and the joined groups
--- are the same.
+-- Only the receive side and its counts may change: the layout, the outstanding transmit slots, the setup and the groups are the same.
 pub record OnlyReceives (d d' : DriverState) : Type 0 where
   -- rings and buffers have the same sizes
   pub layout : d'.layout ≡ d.layout

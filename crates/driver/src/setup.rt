@@ -42,9 +42,7 @@ impl Setup {
 fn copied(vlans: &Option<ArrayVec<u16, MOST_VLANS>>) -> Option<ArrayVec<u16, MOST_VLANS>>
     ensures { result ≡ vlans.now }
 {
-    let Some(list) = vlans else {
-        return None;
-    };
+    let list = vlans.as_ref()?;
     let mut copy = ArrayVec::new();
     // The copy has the same capacity as `list`, so all VLANs fit, and the result is always Ok.
     let _fits = copy.try_extend_from_slice(list.as_slice());

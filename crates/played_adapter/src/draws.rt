@@ -89,7 +89,7 @@ impl PlayedAdapter {
     pub(crate) fn interleave_steps<O: Observer>(&mut self, observer: &mut O)
         ensures { Tells O.heard observer.old observer.new (Interleaves self.old self.new) }
     {
-        // At most `most_steps`. If `most_steps` is 0, the number is 0, and no word is taken.
+        // The number is at most `most_steps`. If `most_steps` is 0, no word is taken.
         let most = self.most_steps;
         let count = choose_below(&mut self.generator, most, u32::from(most) + 1, 0);
         for _step in 0..count {

@@ -4,6 +4,7 @@ use Rattle.bus.specs.Calls.{Ran, at, only}
 use Rattle.bus.specs.DriverState.{DriverState}
 use Rattle.bus.proofs.DriverAccesses.{ran_by-join, ran_by-stays}
 use Rattle.bring_up.specs.ClearedDescriptors.{clears, clears_from}
+use Rattle.bring_up.proofs.ClearedDescriptors.{ran_by-clears_sent, ran_by-clears_spare}
 use Rattle.bring_up.proofs.descriptors_clearing.clear_descriptors.Goals as goal
 
 pub loop-slot-init : goal.loop-slot-init
@@ -18,7 +19,7 @@ loop-slot-preserved g c =
     let here = c.loop-slot in
     let so_far = here.invariant in
     let start = c.args.bus.now in
-    let later = c.clear_descriptor.new.bus in
+    let later = c.store.new.self in
     let address : c.args.first + 16 * c.from.result ≡ c.args.first + 16 * here.slot = omega (arith, c.from.ensures) in
     let more : (up : Bool) (d : DriverState) → Ran g.B.Bus up (only (clears_from c.args.first here.slot)) (at start d) (at here.bus d)
     → Ran g.B.Bus up (only (clears (c.args.first + 16 * c.from.result) ∷ [])) (at here.bus d) (at later d)
@@ -28,19 +29,18 @@ loop-slot-preserved g c =
     (clears (c.args.first + 16 * here.slot) ∷ []) start here.bus later d d d [] [] [] [] before
     (subst (λ (place : ℕ). Ran g.B.Bus up (only (clears place ∷ [])) (at here.bus d) (at later d)) address one)) in
     record {
-      keeps = keeps-on g.B.Bus g.met.B.Bus.composes.lent_stays_on start here.bus later so_far.keeps c.clear_descriptor.ensures.keeps;
+      keeps = keeps-on g.B.Bus g.met.B.Bus.composes.lent_stays_on start here.bus later so_far.keeps c.store.ensures.keeps;
       ran = λ d is first below.
           let before = so_far.ran d is first (omega (arith, below)) in
           more false d before
-          (c.clear_descriptor.ensures.sent d here.slot
-          (record { honest = so_far.keeps.honest is.honest; ready = before.goes.flows.ready }) (omega (arith, below))
-          (omega (arith, address, first)));
+          (ran_by-clears_sent g.B.Bus here.bus later d here.slot (c.args.first + 16 * c.from.result) (omega (arith, below))
+          (omega (arith, address, first)) (c.store.ensures.acts (so_far.keeps.honest is.honest)) before.goes.flows.ready);
       spare = λ up d slot is oldest past below first.
           let before = so_far.spare up d slot is oldest past (omega (arith, below)) first in
           more up d before
-          (c.clear_descriptor.ensures.spare up d (slot + here.slot)
-          (record { honest = so_far.keeps.honest is.honest; ready = before.goes.flows.ready }) oldest (omega (arith, past))
-          (omega (arith, below)) (omega (arith, address, first)));
+          (ran_by-clears_spare g.B.Bus here.bus later d (slot + here.slot) (c.args.first + 16 * c.from.result) oldest
+          (omega (arith, past)) (omega (arith, below)) (omega (arith, address, first))
+          (c.store.ensures.acts (so_far.keeps.honest is.honest)) before.goes.flows.ready);
     }
 
 pub returns-clause-ran : goal.returns-clause-ran

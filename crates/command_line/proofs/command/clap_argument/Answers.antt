@@ -1,10 +1,11 @@
 use Rattle.std.specs.Prelude.{Some}
-use Rattle.std.proofs.Common.{◌≡◌, ◌∙◌, Bool, ap, ap₂, refl, subst, sym}
+use Rattle.std.proofs.Common.{◌≡◌, ◌∙◌, ◌⊎◌, Bool, ap, ap₂, inl, inr, refl, subst, sym}
 use Rattle.clap.specs.Words.{Rule, Text, new_rule, rule_of}
 use Rattle.clap.specs.declared.builder.action.ArgAction.{ArgAction}
 use Rattle.command_line.specs.Arguments.{action_of_form, is_required_form, rule_of_form}
 use Rattle.command_line.specs.declared.command.Form.{Form}
 use Rattle.command_line.specs.declared.command.Form.TheVariants.{File, Flag, Required, Value}
+use Rattle.command_line.proofs.command.clap_argument.Goals.{After-action-arg}
 use Rattle.command_line.proofs.command.clap_argument.Goals as goal
 
 -- the rule of an argument after the calls that are made for each form
@@ -27,46 +28,43 @@ flagged_is form name is =
 abbrev valued : Text → Bool → ArgAction → Rule
 valued name required action = record (named name required action) { value_names = 1 }
 
-valued_is : (form : Form) (name : Text) → ¬ (form ≡ Flag) → ¬ (form ≡ File)
+valued_is : (form : Form) (name : Text) → (form ≡ Value) ⊎ (form ≡ Required)
     → valued name (is_required_form form) (action_of_form form) ≡ rule_of_form form name
-valued_is Value name not_flag not_file = refl
-valued_is Required name not_flag not_file = refl
-valued_is Flag name not_flag not_file = absurd (not_flag refl)
-valued_is File name not_flag not_file = absurd (not_file refl)
+valued_is form name (inl is) =
+    subst (λ (form : Form). valued name (is_required_form form) (action_of_form form) ≡ rule_of_form form name) (sym is) refl
+valued_is form name (inr is) =
+    subst (λ (form : Form). valued name (is_required_form form) (action_of_form form) ≡ rule_of_form form name) (sym is) refl
 
-pub returns-in_default-clause-rule : goal.returns-in_default-clause-rule
-returns-in_default-clause-rule c =
+-- the rule after the calls that are made for each form
+acted : (c : After-action-arg) → rule_of c.action-arg.result ≡ begun c.args.argument.now.0.now c.is_required.result c.action_of.result
+acted c =
     let name = c.args.argument.now.0.now in
     let first : rule_of c.help.result ≡ new_rule name = ap rule_of c.help.ensures ∙ c.new.ensures.rule in
     let second : rule_of c.required.result ≡ record (new_rule name) { required = c.is_required.result } =
     ap rule_of c.required.ensures ∙ ap (λ (r : Rule). record r { required = c.is_required.result }) first in
-    let third : rule_of c.action-arg.result ≡ begun name c.is_required.result c.action_of.result =
-    ap rule_of c.action-arg.ensures ∙ ap (λ (r : Rule). record r { action = Some c.action_of.result }) second in
-    let fourth : rule_of c.long-in_default.result ≡ named name c.is_required.result c.action_of.result =
-    ap rule_of c.long-in_default.ensures ∙ ap (λ (r : Rule). record r { long = Some name }) third in
-    let fifth : rule_of c.value_name.result ≡ valued name c.is_required.result c.action_of.result =
-    ap rule_of c.value_name.ensures ∙ ap (λ (r : Rule). record r { value_names = 1 }) fourth in
-    fifth ∙ ap₂ (valued name) c.is_required.ensures c.action_of.ensures
-    ∙ valued_is c.args.argument.now.1 name c.in_default.not-Flag c.in_default.not-File
+    ap rule_of c.action-arg.ensures ∙ ap (λ (r : Rule). record r { action = Some c.action_of.result }) second
+
+pub returns-in-Value-clause-rule : goal.returns-in-Value-clause-rule
+returns-in-Value-clause-rule c =
+    let name = c.args.argument.now.0.now in
+    let action = acted (goal.at.returns-in-Value-clause-rule c).After-action-arg in
+    let option : rule_of c.long-in-Value.result ≡ named name c.is_required.result c.action_of.result =
+    ap rule_of c.long-in-Value.ensures ∙ ap (λ (r : Rule). record r { long = Some name }) action in
+    let value : rule_of c.value_name.result ≡ valued name c.is_required.result c.action_of.result =
+    ap rule_of c.value_name.ensures ∙ ap (λ (r : Rule). record r { value_names = 1 }) option in
+    value ∙ ap₂ (valued name) c.is_required.ensures c.action_of.ensures
+    ∙ valued_is c.args.argument.now.1 name c.in-Value.is
 
 pub returns-in-File-clause-rule : goal.returns-in-File-clause-rule
 returns-in-File-clause-rule c =
     let name = c.args.argument.now.0.now in
-    let first : rule_of c.help.result ≡ new_rule name = ap rule_of c.help.ensures ∙ c.new.ensures.rule in
-    let second : rule_of c.required.result ≡ record (new_rule name) { required = c.is_required.result } =
-    ap rule_of c.required.ensures ∙ ap (λ (r : Rule). record r { required = c.is_required.result }) first in
-    let third : rule_of c.action-arg.result ≡ begun name c.is_required.result c.action_of.result =
-    ap rule_of c.action-arg.ensures ∙ ap (λ (r : Rule). record r { action = Some c.action_of.result }) second in
-    third ∙ ap₂ (begun name) c.is_required.ensures c.action_of.ensures ∙ filed_is c.args.argument.now.1 name c.in-File.is
+    acted (goal.at.returns-in-File-clause-rule c).After-action-arg
+    ∙ ap₂ (begun name) c.is_required.ensures c.action_of.ensures ∙ filed_is c.args.argument.now.1 name c.in-File.is
 
 pub returns-in-Flag-clause-rule : goal.returns-in-Flag-clause-rule
 returns-in-Flag-clause-rule c =
     let name = c.args.argument.now.0.now in
-    let first : rule_of c.help.result ≡ new_rule name = ap rule_of c.help.ensures ∙ c.new.ensures.rule in
-    let second : rule_of c.required.result ≡ record (new_rule name) { required = c.is_required.result } =
-    ap rule_of c.required.ensures ∙ ap (λ (r : Rule). record r { required = c.is_required.result }) first in
-    let third : rule_of c.action-arg.result ≡ begun name c.is_required.result c.action_of.result =
-    ap rule_of c.action-arg.ensures ∙ ap (λ (r : Rule). record r { action = Some c.action_of.result }) second in
-    let fourth : rule_of c.long.result ≡ named name c.is_required.result c.action_of.result =
-    ap rule_of c.long.ensures ∙ ap (λ (r : Rule). record r { long = Some name }) third in
-    fourth ∙ ap₂ (named name) c.is_required.ensures c.action_of.ensures ∙ flagged_is c.args.argument.now.1 name c.in-Flag.is
+    let action = acted (goal.at.returns-in-Flag-clause-rule c).After-action-arg in
+    let option : rule_of c.long.result ≡ named name c.is_required.result c.action_of.result =
+    ap rule_of c.long.ensures ∙ ap (λ (r : Rule). record r { long = Some name }) action in
+    option ∙ ap₂ (named name) c.is_required.ensures c.action_of.ensures ∙ flagged_is c.args.argument.now.1 name c.in-Flag.is
