@@ -7,3 +7,4 @@ pub mod NotedDrains
 pub mod RecordLaws
 pub mod Writing
 pub mod Told
+pub mod Printed

@@ -13,3 +13,4 @@ pub mod Tallies
 pub mod DrainedView
 pub mod Recording
 pub mod RecordingLaws
+pub mod Printing

@@ -40,8 +40,8 @@ use Rattle.run_record.specs.Numbers.{as_told}
 use Rattle.run_record.specs.Tallies.{no_tally, number_behind, tally_behind}
 use Rattle.scenario_bench.specs.declared.play.Play.{Play}
 use Rattle.run_record.specs.declared.run_log.RunLog.{RunLog}
-use Rattle.scenario_bench.specs.declared.summary.HostSummary.{HostSummary}
-use Rattle.scenario_bench.specs.declared.summary.Summary.{Summary}
+use Rattle.run_record.specs.declared.summary.HostSummary.{HostSummary}
+use Rattle.run_record.specs.declared.summary.Summary.{Summary}
 use Rattle.scenario_bench.specs.declared.bench_error.BenchError.{BenchError}
 use Rattle.scenario_bench.specs.declared.bench_error.BenchError.TheVariants as errors
 use Rattle.scenario.specs.declared.command.Command.{Command}

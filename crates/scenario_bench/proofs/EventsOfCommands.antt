@@ -1,7 +1,7 @@
 -- Steps of the loops that make the events of commands.
 use Rattle.std.proofs.Common.{◌≡◌, ◌<◌, ◌+◌, ◌/◌, ◌%◌, ◌==◌, ◌&&◌, [], ◌∷◌, ◌++◌, ◌∙◌}
 use Rattle.std.proofs.Common.{Bool, bytes_eq, drop, false, if◌then◌else◌, not, string_bytes, true}
-use Rattle.std.proofs.Common.{ℕ, zero, suc, List, Option, length, get_or, refl, sym, ap, append_assoc, arith}
+use Rattle.std.proofs.Common.{◌≢◌, ℕ, zero, suc, List, Option, length, get_or, refl, sym, ap, append_assoc, arith, rules}
 use Rattle.std.specs.List.{range_with_len}
 use Rattle.std.specs.Prelude.{map, option_map, unwrap_or}
 use Rattle.std.proofs.lemmas.List.{drop_more, length-map}
@@ -59,11 +59,16 @@ arrives-more before so_far all one pieces host socket is more one_is =
     ∙ append_assoc before (arrival_at pieces host socket) (Receives host socket [] ∷ [])
     ∙ ap (λ (more : List Said). before ++ more) (sym (arrival_at-more pieces host socket))
 
-pub both : {a b answer : Bool} → a ≡ true → b ≡ answer → (a && b) ≡ answer
-both {a} {b} {answer} first second = ap (λ (c : Bool). c && b) first ∙ second
+-- A host that isn't the sender: the condition is the second test.
+pub other_host : {number sender : ℕ} {test answer : Bool} → number ≢ sender → test ≡ answer → (not (number == sender) && test) ≡ answer
+other_host {number} {sender} {test} other is =
+    let differs : not (number == sender) ≡ true = search (rules, arith) in
+    ap (λ (first : Bool). first && test) differs ∙ is
 
-pub first_false : {a : Bool} (b : Bool) → a ≡ false → (a && b) ≡ false
-first_false {a} b first = ap (λ (c : Bool). c && b) first
+pub own_host : {number sender : ℕ} (test : Bool) → number ≡ sender → (not (number == sender) && test) ≡ false
+own_host {number} {sender} test own =
+    let same : not (number == sender) ≡ false = search (rules, arith) in
+    ap (λ (first : Bool). first && test) same
 
 -- A name was compared with the name of a wire.
 pub same_names : {text name wire sender_wire : List ℕ} {test answer : Bool} → text ≡ name → wire ≡ sender_wire

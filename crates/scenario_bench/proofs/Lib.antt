@@ -1,5 +1,4 @@
 pub mod EventsOfCommands
-pub mod Printed
 pub mod JoinedActs
 pub mod ResetsInOrder
 pub mod EmptySockets

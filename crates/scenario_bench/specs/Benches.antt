@@ -8,7 +8,7 @@ use Rattle.scenario.specs.SoFar.{Said, hosts_of, said_of}
 use Rattle.scenario.specs.declared.command.Scenario.{Scenario}
 use Rattle.scenario_bench.specs.declared.bench_error.BenchError.{BenchError}
 use Rattle.scenario_bench.specs.declared.bench_error.BenchError.TheVariants as errors
-use Rattle.scenario_bench.specs.declared.summary.Summary.{Summary}
+use Rattle.run_record.specs.declared.summary.Summary.{Summary}
 use Rattle.run_record.specs.Acts.{Act, history}
 use Rattle.scenario_bench.specs.PlayedActs.{ActsLead, act_of}
 use Rattle.scenario_bench.specs.EventLists.{all_events}

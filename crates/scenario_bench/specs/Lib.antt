@@ -6,4 +6,3 @@ pub mod WireLists
 pub mod Summaries
 pub mod Benches
 pub mod PlayedEvents
-pub mod Printing

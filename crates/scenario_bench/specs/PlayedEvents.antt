@@ -6,7 +6,7 @@ use Rattle.packet_socket.specs.HostState.{HostState}
 use Rattle.stations.specs.Stations.{world_at}
 use Rattle.wire.specs.Equations.{IsExact, missed_count}
 use Rattle.host_calls.specs.Networks.{IsHost}
-use Rattle.scenario_bench.specs.declared.summary.HostSummary.{HostSummary}
+use Rattle.run_record.specs.declared.summary.HostSummary.{HostSummary}
 use Rattle.run_record.specs.declared.tally.Tally.{Tally}
 use Rattle.network_plan.specs.declared.plan.HostPlan.{HostPlan}
 use Rattle.pcap_trace.specs.Format.{Timed}

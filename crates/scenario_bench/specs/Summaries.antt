@@ -18,8 +18,8 @@ use Rattle.run_record.specs.RunLogs.{acts_in, no_refusals, refusals_by}
 use Rattle.run_record.specs.Tallies.{all_given, grown_by, off_by, is_given_up_at}
 use Rattle.run_record.specs.declared.run_log.Refusals.{Refusals}
 use Rattle.run_record.specs.declared.tally.GivenUp.{GivenUp as ResetsTold}
-use Rattle.scenario_bench.specs.declared.summary.HostSummary.{HostSummary}
-use Rattle.scenario_bench.specs.declared.summary.Summary.{Summary}
+use Rattle.run_record.specs.declared.summary.HostSummary.{HostSummary}
+use Rattle.run_record.specs.declared.summary.Summary.{Summary}
 
 -- The numbers of frames that resets of the k-th host dropped, and that reached its adapter while its receive side was
 -- disabled. None if there was no reset. Each number saturates at the greatest u64.

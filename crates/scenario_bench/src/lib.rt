@@ -7,15 +7,11 @@ mod bench_error;
 mod events;
 mod file_names;
 mod play;
-mod printing;
 mod socket_list;
-mod summary;
 mod wire_list;
 
 pub use bench_error::BenchError;
 pub use file_names::{socket_files, wire_files};
 pub use play::bench;
-pub use printing::print_summary;
-pub use run_record::{EventLog, GivenUp, Refusals};
-pub use summary::{HostSummary, Summary};
+pub use run_record::{EventLog, GivenUp, HostSummary, Refusals, Summary, print_summary};
 pub use wire_list::wires;

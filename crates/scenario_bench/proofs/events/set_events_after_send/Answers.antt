@@ -1,4 +1,4 @@
-use Rattle.std.proofs.Common.{◌≡◌, ◌==◌, ◌++◌, ◌∷◌, ◌∙◌, [], ℕ, Global, List, Vec, ap, append-nil, arith, false, map, not, rules, sym, true}
+use Rattle.std.proofs.Common.{◌++◌, ◌∷◌, ◌∙◌, [], ℕ, Global, List, Vec, ap, append-nil, false, map, sym, true}
 use Rattle.std.proofs.Math.ListN.{drop_of_length-le}
 use Rattle.network_plan.specs.declared.event.Event.{Event}
 use Rattle.network_plan.specs.declared.plan.HostPlan.{HostPlan}
@@ -7,7 +7,7 @@ use Rattle.scenario.specs.SoFar.{Said, Ticks, command_of_event, hosts_of}
 use Rattle.adapter.specs.declared.step.StepKind.TheVariants.{TxTake}
 use Rattle.stations.specs.declared.tick.Tick.TheVariants.{Step}
 use Rattle.scenario_bench.specs.EventLists.{arrival_at, arrivals_from}
-use Rattle.scenario_bench.proofs.EventsOfCommands.{arrivals_step, both, first_false, same_names}
+use Rattle.scenario_bench.proofs.EventsOfCommands.{arrivals_step, other_host, own_host, same_names}
 use Rattle.scenario_bench.proofs.events.set_events_after_send.Goals.{then-number-sender+then-eq+in_ok-push_arrival, else-number-sender}
 use Rattle.scenario_bench.proofs.events.set_events_after_send.Goals.{else-number-sender-via-then-number-sender+else-eq}
 use Rattle.scenario_bench.proofs.events.set_events_after_send.Goals.{else-number-sender-via-else-number-sender}
@@ -42,23 +42,20 @@ loop-number-preserved c =
     let below = c.loop-number-test.true in
     elim c.if-number-sender.branch [
       | then-number-sender+then-eq+in_ok-push_arrival w ↦
-          let other : not (c.loop-number.number == c.args.sender) ≡ true = search (rules, arith) in
           let arrived = ap said w.events-is ∙ w.in_ok-push_arrival.ensures
           ∙ ap (λ (sockets : ℕ). before ++ arrival_at c.args.pieces c.loop-number.number sockets) w.len.ensures.value in
           step true before (said c.if-number-sender.events) below c.index-plans-number.is
-          (both other (same_names w.as_str.ensures.value c.wire_of-wire.ensures w.eq.ensures w.if-eq.true)) arrived
+          (other_host w.if-number-sender.true (same_names w.as_str.ensures.value c.wire_of-wire.ensures w.eq.ensures w.if-eq.true)) arrived
           ∙ c.loop-number.invariant
       | else-number-sender w ↦
           let kept = ap said w.events-is ∙ sym (append-nil before) in
           elim w.else-number-sender.branch [
             | else-number-sender-via-then-number-sender+else-eq w' ↦
-                let other : not (c.loop-number.number == c.args.sender) ≡ true = search (rules, arith) in
                 step false before (said c.if-number-sender.events) below c.index-plans-number.is
-                (both other (same_names w'.as_str.ensures.value c.wire_of-wire.ensures w'.eq.ensures w'.if-eq.false)) kept
+                (other_host w'.if-number-sender.true (same_names w'.as_str.ensures.value c.wire_of-wire.ensures w'.eq.ensures w'.if-eq.false)) kept
                 ∙ c.loop-number.invariant
             | else-number-sender-via-else-number-sender w' ↦
-                let own : not (c.loop-number.number == c.args.sender) ≡ false = search (rules, arith) in
-                step false before (said c.if-number-sender.events) below c.index-plans-number.is (first_false _ own) kept
+                step false before (said c.if-number-sender.events) below c.index-plans-number.is (own_host _ w'.if-number-sender.false) kept
                 ∙ c.loop-number.invariant
           ]
     ]

@@ -2,13 +2,13 @@
 ghost use Rattle.std.specs.Prelude.{◌≡◌, ◌<◌, ◌≤◌, ◌+◌, ◌++◌, length, OnErr, OnOk};
 ghost use Rattle.std.specs.Io.KnownBytes.{Appends};
 ghost use Rattle.pcap_trace.specs.Devices.{AppendsFront, CountsFailures};
-ghost use Rattle.scenario_bench.specs.Printing.{exact_word, host_fields};
-ghost use Rattle.scenario_bench.specs.Printing.{host_line, resets_text, summary_text};
+ghost use Rattle.run_record.specs.Printing.{exact_word, host_fields};
+ghost use Rattle.run_record.specs.Printing.{host_line, resets_text, summary_text};
 
 use crate::summary::{HostSummary, Summary};
+use crate::tally::GivenUp;
 use arrayvec::ArrayVec;
 use pcap_trace::{Sink, WriteError, write_all};
-use run_record::GivenUp;
 use text::push_field;
 
 /// Room in bytes for the part of a host's line after its name: ten labels with numbers, of at most 60 bytes each, a

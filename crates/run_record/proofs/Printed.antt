@@ -5,8 +5,8 @@ use Rattle.std.specs.List.{flat_map}
 use Rattle.std.proofs.KnownBytes.{Appends-trans}
 use Rattle.pcap_trace.specs.Devices.{AppendsFront}
 use Rattle.pcap_trace.proofs.Sent.{AppendsFront-longer, AppendsFront-then, SentUpTo}
-use Rattle.scenario_bench.specs.Printing.{host_line}
-use Rattle.scenario_bench.specs.declared.summary.HostSummary.{HostSummary}
+use Rattle.run_record.specs.Printing.{host_line}
+use Rattle.run_record.specs.declared.summary.HostSummary.{HostSummary}
 
 -- A text grew by its last part.
 pub grows : {before line text : List ℕ} (more : List ℕ) → text ≡ line ++ more → line ≡ before → text ≡ before ++ more

@@ -1,6 +1,7 @@
 //! The summary of a run.
 
-use run_record::{EventLog, GivenUp, Refusals};
+use crate::run_log::{EventLog, Refusals};
+use crate::tally::GivenUp;
 
 /// The summary of a host. Each number saturates at the greatest `u64`.
 #[derive(Drop)]

@@ -1,8 +1,8 @@
 use Rattle.std.proofs.Common.{◌≡◌, drop}
 use Rattle.std.specs.List.{flat_map}
 use Rattle.pcap_trace.proofs.Sent.{SentUpTo}
-use Rattle.scenario_bench.specs.Printing.{host_line, summary_text}
-use Rattle.scenario_bench.proofs.printing.print_summary.Given as goal
+use Rattle.run_record.specs.Printing.{host_line, summary_text}
+use Rattle.run_record.proofs.printing.print_summary.Given as goal
 
 abbrev pub invariant-loop-host : goal.invariant-loop-host
 invariant-loop-host g l = record {

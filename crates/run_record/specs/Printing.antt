@@ -3,8 +3,8 @@ use Rattle.std.specs.Prelude.{◌++◌, [], ℕ, Bool, true, false, List, None, 
 use Rattle.std.specs.List.{flat_map}
 use Rattle.text.specs.Fields.{labelled}
 use Rattle.run_record.specs.declared.tally.GivenUp.{GivenUp}
-use Rattle.scenario_bench.specs.declared.summary.HostSummary.{HostSummary}
-use Rattle.scenario_bench.specs.declared.summary.Summary.{Summary}
+use Rattle.run_record.specs.declared.summary.HostSummary.{HostSummary}
+use Rattle.run_record.specs.declared.summary.Summary.{Summary}
 
 -- the word for whether the number of missed frames is exact
 abbrev pub exact_word : Bool → List ℕ

@@ -4,9 +4,9 @@ use Rattle.std.proofs.KnownBytes.{Appends-trans}
 use Rattle.std.proofs.lemmas.Result.{err_from_is_err_and, on_err_weaker, on_ok_weaker}
 use Rattle.pcap_trace.specs.Devices.{AppendsFront}
 use Rattle.pcap_trace.proofs.Sent.{AppendsFront-longer, AppendsFront-then}
-use Rattle.scenario_bench.specs.Printing.{host_fields}
-use Rattle.scenario_bench.proofs.Printed.{sent-then}
-use Rattle.scenario_bench.proofs.printing.print_host.Goals as goal
+use Rattle.run_record.specs.Printing.{host_fields}
+use Rattle.run_record.proofs.Printed.{sent-then}
+use Rattle.run_record.proofs.printing.print_host.Goals as goal
 
 pub returns-in_err-write_all-clause-err : goal.returns-in_err-write_all-clause-err
 returns-in_err-write_all-clause-err g c =

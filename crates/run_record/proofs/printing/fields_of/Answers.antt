@@ -1,5 +1,5 @@
-use Rattle.scenario_bench.proofs.Printed.{grows}
-use Rattle.scenario_bench.proofs.printing.fields_of.Goals as goal
+use Rattle.run_record.proofs.Printed.{grows}
+use Rattle.run_record.proofs.printing.fields_of.Goals as goal
 
 pub returns : goal.returns
 returns c = grows _ c.push.ensures.items (grows _ c.push_resets.ensures.text (grows _ c.push_field-7.ensures.text

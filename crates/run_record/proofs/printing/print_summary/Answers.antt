@@ -3,10 +3,10 @@ use Rattle.std.proofs.KnownBytes.{Appends-nil}
 use Rattle.std.proofs.Math.ListN.{drop_of_length-le}
 use Rattle.std.proofs.lemmas.Grind.{common_steps}
 use Rattle.std.proofs.lemmas.Result.{err_from_is_err_and}
-use Rattle.scenario_bench.proofs.Printed.{SentUpTo-all, SentUpTo-line, SentUpTo-stops}
-use Rattle.scenario_bench.specs.Printing.{summary_text}
-use Rattle.scenario_bench.specs.declared.summary.HostSummary.{HostSummary}
-use Rattle.scenario_bench.proofs.printing.print_summary.Goals as goal
+use Rattle.run_record.proofs.Printed.{SentUpTo-all, SentUpTo-line, SentUpTo-stops}
+use Rattle.run_record.specs.Printing.{summary_text}
+use Rattle.run_record.specs.declared.summary.HostSummary.{HostSummary}
+use Rattle.run_record.proofs.printing.print_summary.Goals as goal
 
 pub returns-in_err-print_host-clause-err : goal.returns-in_err-print_host-clause-err
 returns-in_err-print_host-clause-err g c =
