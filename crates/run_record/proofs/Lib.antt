@@ -1,5 +1,6 @@
 pub mod Appended
 pub mod Puts
+pub mod Found
 pub mod Noting
 pub mod AroundTicks
 pub mod NotedEvents

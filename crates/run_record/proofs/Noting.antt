@@ -1,8 +1,8 @@
 -- How a count at one host, and the outcome of a tick, change the counts of the hosts.
 use Rattle.std.proofs.Common.{◌≡◌, ◌<◌, ◌≤◌, ◌==◌, ◌∷◌, [], ℕ, Bool, true, false, List, Option, Some, None, length}
-use Rattle.std.proofs.Common.{slice_get, slice_set, option_map, if◌then◌else◌, inl, inr, refl, sym, ap, subst, ◌∙◌, arith}
+use Rattle.std.proofs.Common.{slice_get, slice_set, get_or, option_map, if◌then◌else◌, inl, inr, refl, sym, ap, subst, ◌∙◌, arith}
 use Rattle.std.proofs.lemmas.Bool.Decides.{eqb_tells}
-use Rattle.std.proofs.lemmas.Option.{slice_get_within}
+use Rattle.std.proofs.lemmas.Option.{slice_get-get_or, slice_get_within}
 use Rattle.circular_buffer.proofs.Places.{slice_get-set_other, slice_get-set_same}
 use Rattle.host_calls.specs.Happenings.{Moved, outcome_happenings}
 use Rattle.adapter.specs.Outcomes.{FrameOutcome}
@@ -65,12 +65,27 @@ pub counts_there : (hosts : List Tally) (host : ℕ) (one : Passage) (tally new 
     → new ≡ counted_once one tally → TallyCounts host one hosts (slice_set hosts host new)
 counts_there hosts host one tally new there is = set-there hosts host tally new (counted_once one) there is
 
+-- the same, with the counts that the function read
+pub counted_there : (hosts : List Tally) (host : ℕ) (one : Passage) (default new : Tally) → host < length hosts
+    → new ≡ counted_once one (get_or hosts host default) → TallyCounts host one hosts (slice_set hosts host new)
+counted_there hosts host one default new below is =
+    counts_there hosts host one (get_or hosts host default) new (slice_get-get_or hosts host default below) is
+
 pub counts_nowhere : (hosts : List Tally) (host : ℕ) (one : Passage) → length hosts ≤ host → TallyCounts host one hosts hosts
 counts_nowhere hosts host one below = set-nowhere hosts host (counted_once one) below
 
 pub given_up_there : (hosts : List Tally) (host sending holding : ℕ) (tally new : Tally) → slice_get hosts host ≡ Some tally
     → new ≡ tally_given_up sending holding tally → TallyGivesUp host sending holding hosts (slice_set hosts host new)
 given_up_there hosts host sending holding tally new there is = set-there hosts host tally new (tally_given_up sending holding) there is
+
+-- the same, with the counts that the function read and the lengths that it computed
+pub reset_there : (hosts : List Tally) (host sending holding n m : ℕ) (default new : Tally) → host < length hosts → n ≡ sending
+    → m ≡ holding → new ≡ tally_given_up n m (get_or hosts host default)
+    → TallyGivesUp host sending holding hosts (slice_set hosts host new)
+reset_there hosts host sending holding n m default new below first second is =
+    let tally = get_or hosts host default in
+    given_up_there hosts host sending holding tally new (slice_get-get_or hosts host default below)
+    (is ∙ ap (λ (k : ℕ). tally_given_up k m tally) first ∙ ap (λ (k : ℕ). tally_given_up sending k tally) second)
 
 pub given_up_nowhere : (hosts : List Tally) (host sending holding : ℕ) → length hosts ≤ host
     → TallyGivesUp host sending holding hosts hosts

@@ -1,12 +1,12 @@
 -- Frames that are added to the recorded frames, and how `write_trace` writes the frames of one trace.
 use Rattle.std.proofs.Common.{◌≡◌, ◌<◌, ◌≤◌, ◌++◌, ◌∷◌, [], ℕ, Bool, true, false, List, Option, Some, length, drop, take}
 use Rattle.std.proofs.Common.{if◌then◌else◌, option_map, slice_get, sum_by, suc, unwrap_or, zero}
-use Rattle.std.proofs.Common.{refl, sym, ap, subst, ◌∙◌, append_assoc, append-nil, arith}
+use Rattle.std.proofs.Common.{refl, sym, ap, subst, ◌∙◌, append_assoc, append-nil, arith, length-append, length-take}
 use Rattle.std.specs.Borrow.{Bor}
 use Rattle.std.specs.Io.KnownBytes.{Appends, append_known}
 use Rattle.std.specs.List.{AllByRecursion, flat_map}
 use Rattle.std.proofs.lemmas.List.{drop-append-le, length-drop, length-map, nil_from_length, take-append-le, take_at}
-use Rattle.std.proofs.lemmas.List.Sums.{sum_by-cons}
+use Rattle.std.proofs.lemmas.List.Sums.{sum_by-append, sum_by-cons}
 use Rattle.std.proofs.lemmas.Option.{slice_get-map}
 use Rattle.pcap_trace.specs.Devices.{AppendsFront, Grows}
 use Rattle.pcap_trace.specs.Format.{Timed, file_header, packet_of, written}
@@ -52,6 +52,32 @@ put_more puts info frame infos more bytes longer is all size more_is longer_is =
     ∙ ap (kept_frames_from (infos ++ info ∷ [])) longer_is
     ∙ frames-more infos bytes info frame all size
     ∙ ap (λ (all : List KeptFrame). all ++ frame_with info frame ∷ []) (sym is)
+
+-- The stored frames still have their lengths (`HasKeptBytes`).
+
+pub kept-same : (infos more : List FrameInfo) (bytes longer : List ℕ) → sum_by length_in infos ≡ length bytes
+    → AllByRecursion HasKeptSize infos → more ≡ infos → longer ≡ bytes
+    → (sum_by length_in more ≡ length longer) × AllByRecursion HasKeptSize more
+kept-same infos more bytes longer size short more_is longer_is = (
+  ap (sum_by length_in) more_is ∙ size ∙ sym (ap length longer_is),
+  subst (AllByRecursion HasKeptSize) (sym more_is) short,
+)
+
+short-more : (infos : List FrameInfo) (info : FrameInfo) → AllByRecursion HasKeptSize infos → HasKeptSize info
+    → AllByRecursion HasKeptSize (infos ++ info ∷ [])
+short-more [] info short fits = (fits, tt)
+short-more (first ∷ infos) info short fits = (short.0, short-more infos info short.1 fits)
+
+pub kept-more : (infos more : List FrameInfo) (info : FrameInfo) (bytes longer frame : List ℕ) → sum_by length_in infos ≡ length bytes
+    → AllByRecursion HasKeptSize infos → info.length ≡ length frame → length frame ≤ 1518 → more ≡ infos ++ info ∷ []
+    → longer ≡ bytes ++ frame → (sum_by length_in more ≡ length longer) × AllByRecursion HasKeptSize more
+kept-more infos more info bytes longer frame size short is fits more_is longer_is =
+    let all = sum_by-append length_in infos (info ∷ []) in
+    let one = sum_by-cons length_in info [] in
+    let both : sum_by length_in (infos ++ info ∷ []) ≡ length (bytes ++ frame) =
+    omega (arith, all, one, size, is, length-append bytes frame) in
+    kept-same (infos ++ info ∷ []) more (bytes ++ frame) longer both (short-more infos info short (omega (arith, is, fits))) more_is
+    longer_is
 
 -- Writing.
 
@@ -106,6 +132,24 @@ module _ (test : ℕ → ℕ → Bool) where
       let behind : sum_by length_in infos ≡ length (drop info.length bytes) =
       omega (arith, sizes, parts, length-drop info.length bytes) in
       behind ∙ sym (ap length rest_is)
+
+  -- the remaining bytes contain the next frame
+  pub puts-fits : (unit : Unit) (all : List KeptFrame) (info : FrameInfo) (infos list : List FrameInfo) (bytes : List ℕ)
+      (before now : Option (List ℕ)) (waiting : List ℕ)
+      → list ≡ info ∷ infos → HasKept unit test all list bytes before now waiting → info.length ≤ length bytes
+  puts-fits unit all info infos list bytes before now waiting is has =
+      let sizes : sum_by length_in (info ∷ infos) ≡ length bytes = sym (ap (sum_by length_in) is) ∙ has.size in
+      let parts = sum_by-cons length_in info infos in
+      omega (arith, sizes, parts)
+
+  -- the next frame has at most 1,518 bytes
+  pub puts-short : (unit : Unit) (all : List KeptFrame) (info : FrameInfo) (infos list : List FrameInfo) (frame bytes : List ℕ)
+      (before now : Option (List ℕ)) (waiting : List ℕ)
+      → list ≡ info ∷ infos → frame ≡ take info.length bytes → HasKept unit test all list bytes before now waiting → length frame ≤ 1518
+  puts-short unit all info infos list frame bytes before now waiting is frame_is has =
+      let short : info.length ≤ 1518 = (subst (AllByRecursion HasKeptSize) is has.short).0 in
+      let size : length frame ≡ length (take info.length bytes) = ap length frame_is in
+      omega (arith, short, size, length-take info.length bytes)
 
   pub puts-written : (unit : Unit) (all : List KeptFrame) (info : FrameInfo) (infos list : List FrameInfo) (frame bytes rest : List ℕ)
       (before now later : Option (List ℕ)) (waiting more : List ℕ)

@@ -1,9 +1,11 @@
 -- The record of an event: what is recorded of its ticks, line and answer is what `RecordsReplies` states of the event and its reply.
 use Rattle.std.proofs.Common.{◌≡◌, ◌==◌, ◌⊎◌, ◌++◌, ◌∷◌, [], ℕ, arith, inl, inr, length, Bool, true, false, Err}
-use Rattle.std.proofs.Common.{List, None, Ok, Option, Some, map}
+use Rattle.std.proofs.Common.{◌||◌, List, None, Ok, OnOk, Option, Result, Some, map}
 use Rattle.std.proofs.Common.{if◌then◌else◌, option_map, slice_get, refl, sym, ap, subst, ◌∙◌, append-nil}
 use Rattle.std.specs.List.{flat_map, fold}
+use Rattle.std.specs.Result.{is_err}
 use Rattle.std.specs.Vec.{with_items}
+use Rattle.std.specs.declared.alloc.AllocError.{AllocError}
 use Rattle.std.proofs.lemmas.Grind.{flat_map-append}
 use Rattle.std.proofs.lemmas.List.{with_items_is}
 use Rattle.std.proofs.lemmas.List.Sums.{fold-append}
@@ -33,6 +35,7 @@ use Rattle.run_record.specs.RunLogs.{log_ended, log_heard}
 use Rattle.run_record.specs.Tallies.{TalliesGrow, given_up_of, grown_by, tallied_by, tally_given_up, counted_once}
 use Rattle.run_record.specs.Tallies.{passage_by, tally_behind}
 use Rattle.run_record.specs.declared.record.Record.{Record}
+use Rattle.run_record.specs.declared.run_log.RunLog.{RunLog}
 use Rattle.run_record.specs.declared.tally.Passage.{Passage}
 use Rattle.run_record.specs.declared.tally.Passage.TheVariants as passage
 use Rattle.run_record.specs.declared.tally.Tally.{Tally}
@@ -372,6 +375,34 @@ paired-all (tick_happenings ∷ ticks) = ap (λ (later : List TickTold). tick_ha
 told-ticks : (one : Event) (ticks : List TickTold) → AreOfTicks one ticks → paired (played_ticks one) (map note_of ticks) ≡ ticks
 told-ticks one ticks of_ticks =
     ap (λ (played : List Tick). paired played (map note_of ticks)) (sym of_ticks) ∙ paired-all ticks
+
+-- A line was recorded, unless memory was refused for it.
+
+or-first : (a b : Bool) → (a || b) ≡ false → a ≡ false
+or-first true b none = none
+or-first false b none = refl
+
+or-second : (a b : Bool) → (a || b) ≡ false → b ≡ false
+or-second true b none = cc
+or-second false b none = none
+
+ok-holds : (result : Result (Unit {0}) AllocError) (P : Type 0) → is_err result ≡ false → OnOk result P → P
+ok-holds (Ok u) P is holds = holds
+ok-holds (Err error) P is holds = cc
+
+pub line-noted : (one : Event) (given : FrameAnswer) (accesses : ℕ) (old : Record) (log : RunLog) (refused : Bool)
+    (result : Result (Unit {0}) AllocError) → refused ≡ is_err result
+    → OnOk result (log ≡ log_ended (place_in_run old.number old.line) one accesses given old.log)
+    → NotesLine one accesses given old (record old { log = log; failed = old.failed || refused })
+line-noted one given accesses old log refused result is ended = record {
+  number = refl;
+  hosts = refl;
+  returned = refl;
+  puts = refl;
+  before = λ sound. or-first old.failed refused sound;
+  log = λ sound. ok-holds result (log ≡ log_ended (place_in_run old.number old.line) one accesses given old.log)
+      (sym is ∙ or-second old.failed refused sound) ended;
+}
 
 -- After the ticks, the line and the answer of an event are recorded, and the number has grown, the event with its reply is recorded.
 pub records-reply : (one : Event) (given : FrameAnswer) (accesses : ℕ) (ticks : List TickTold) (begin ticked lined after : Record)

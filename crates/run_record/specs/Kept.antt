@@ -1,8 +1,6 @@
 -- The frames that adapters put on wires and that sockets return in a run, each with the number of its event or drain (our choice).
-use Rattle.std.specs.Prelude.{◌≡◌, ◌==◌, ◌&&◌, ◌++◌, ◌∷◌, [], ℕ, Bool, true, false, List, Option, if◌then◌else◌, map, option_map}
+use Rattle.std.specs.Prelude.{◌≡◌, ◌==◌, ◌&&◌, ◌++◌, ◌∷◌, [], ℕ, Bool, List, Option, if◌then◌else◌, map, option_map}
 use Rattle.std.specs.List.{flat_map}
-use Rattle.adapter.specs.declared.outcome.Outcome.{Outcome}
-use Rattle.adapter.specs.declared.outcome.Outcome.TheVariants as outcome
 use Rattle.host_calls.specs.Happenings.{Given, Happening, Put}
 use Rattle.pcap_trace.specs.Format.{Timed}
 use Rattle.run_record.specs.Acts.{Act, said_in}
@@ -71,11 +69,6 @@ abbrev pub socket_texts : List KeptFrame → (sockets : List (ℕ × ℕ)) → L
 socket_texts returned sockets = map (λ (place : ℕ × ℕ). frames_where (is_of_socket place.0 place.1) returned) sockets
 
 -- Recorded frames.
-
--- whether an outcome is that a frame was put
-abbrev pub is_put : {F : Type 0} → Outcome F → Bool
-is_put (outcome.Put frame) = true
-is_put one = false
 
 -- `new` is `old` with the frames `more` appended.
 abbrev pub FramesGrow : List KeptFrame → (old new : List KeptFrame) → Type 0

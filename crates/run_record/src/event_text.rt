@@ -1,5 +1,5 @@
 //! The lines of events and drains, and their parts.
-ghost use Rattle.std.specs.Prelude.{◌≡◌, ◌++◌, ℕ, List, OnOk, codes, decimal, map, string_bytes};
+ghost use Rattle.std.specs.Prelude.{◌≡◌, ◌++◌, ℕ, List, OnOk, decimal, map, string_bytes};
 ghost use Rattle.adapter.specs.Outcomes.{with_frame};
 ghost use Rattle.network_plan.specs.Answers.{answer_with};
 ghost use Rattle.run_record.specs.EventLines as lines;
@@ -24,7 +24,7 @@ pub(crate) struct Place {
 }
 
 /// Appends a label and a number.
-fn push_number(text: &mut Vec<u8>, label: &[u8], number: u64) -> Result<(), AllocError>
+pub(crate) fn push_number(text: &mut Vec<u8>, label: &[u8], number: u64) -> Result<(), AllocError>
     ensures { OnOk result (text.new.items ≡ text.old.items ++ (label.now ++ decimal number)) }
 {
     let mut buffer = Buffer::new();
@@ -32,17 +32,7 @@ fn push_number(text: &mut Vec<u8>, label: &[u8], number: u64) -> Result<(), Allo
     text.extend_from_slice(buffer.format(number).as_bytes())
 }
 
-/// Returns the name of a host, or an empty name if there is no such host.
-fn name_of(names: &[String], host: usize) -> &str
-    ensures { result.now ≡ texts.name_at (map string_bytes names.now) host }
-{
-    match names.get(host) {
-        Some(name) => name.as_str(),
-        None => "",
-    }
-}
-
-/// Appends a label and the name of a host.
+/// Appends a label and the name of a host. The name of a host that doesn't exist is empty.
 fn push_host(
     text: &mut Vec<u8>,
     label: &[u8],
@@ -53,22 +43,26 @@ fn push_host(
         (text.new.items ≡ text.old.items ++ (label.now ++ texts.name_at (map string_bytes names.now) host)) }
 {
     text.extend_from_slice(label)?;
-    text.extend_from_slice(name_of(names, host).as_bytes())
+    match names.get(host) {
+        Some(name) => text.extend_from_slice(name.as_bytes()),
+        None => Ok(()),
+    }
 }
 
-/// Appends a label, the name of a host, a blank and a number.
+/// Appends a label, the name of a host, a second label and a number.
 fn push_counted(
     text: &mut Vec<u8>,
     label: &[u8],
     names: &[String],
     host: usize,
+    number_label: &[u8],
     number: u64,
 ) -> Result<(), AllocError>
     ensures { OnOk result (text.new.items ≡ text.old.items
-        ++ (label.now ++ texts.name_at (map string_bytes names.now) host) ++ texts.numbered (codes " ") number) }
+        ++ (label.now ++ texts.name_at (map string_bytes names.now) host) ++ texts.numbered number_label.now number) }
 {
     push_host(text, label, names, host)?;
-    push_number(text, b" ", number)
+    push_number(text, number_label, number)
 }
 
 /// Returns a blank, the word for a step as scenarios spell it, and a colon.
@@ -97,20 +91,7 @@ fn push_tick(text: &mut Vec<u8>, names: &[String], tick: Tick) -> Result<(), All
     }
 }
 
-/// Returns a blank and the word for a fate.
-fn fate_word(fate: Fate) -> &'static [u8]
-    ensures { result.now ≡ texts.fate_field fate }
-{
-    match fate {
-        Fate::Off => b" off",
-        Fate::Illegal => b" illegal",
-        Fate::Filtered => b" filtered",
-        Fate::Missed => b" missed",
-        Fate::Stored => b" stored",
-    }
-}
-
-/// Returns a blank and the word for an outcome.
+/// Returns a blank and the word for an outcome. For a delivery, this is the word for the fate of its frame.
 fn outcome_word(outcome: &Outcome<()>) -> &'static [u8]
     ensures { (frame : List ℕ) → result.now ≡ texts.outcome_field (with_frame frame outcome.now) }
 {
@@ -121,23 +102,14 @@ fn outcome_word(outcome: &Outcome<()>) -> &'static [u8]
         Outcome::Part => b" part",
         Outcome::Moved => b" moved",
         Outcome::Done => b" done",
-        Outcome::Delivered(_, fate) => fate_word(*fate),
+        Outcome::Delivered(_, Fate::Off) => b" off",
+        Outcome::Delivered(_, Fate::Illegal) => b" illegal",
+        Outcome::Delivered(_, Fate::Filtered) => b" filtered",
+        Outcome::Delivered(_, Fate::Missed) => b" missed",
+        Outcome::Delivered(_, Fate::Stored) => b" stored",
         Outcome::Ticked => b" ticked",
         Outcome::Nothing => b" nothing",
         Outcome::Fault => b" fault",
-    }
-}
-
-/// Appends a blank and the word for an outcome. If the outcome has a frame, also appends a blank and the frame's size
-/// in bytes.
-fn push_outcome(text: &mut Vec<u8>, outcome: &Outcome<()>, frame: &[u8]) -> Result<(), AllocError>
-    ensures { OnOk result
-        (text.new.items ≡ text.old.items ++ texts.outcome_text (with_frame frame.now outcome.now)) }
-{
-    text.extend_from_slice(outcome_word(outcome))?;
-    match outcome {
-        Outcome::Put(_) | Outcome::Delivered(_, _) => push_number(text, b" ", frame.len() as u64),
-        _ => Ok(()),
     }
 }
 
@@ -157,49 +129,35 @@ pub(crate) fn push_told(
 {
     push_number(text, b" @", accesses)?;
     push_tick(text, names, tick)?;
-    push_outcome(text, outcome, frame)
+    text.extend_from_slice(outcome_word(outcome))?;
+    match outcome {
+        Outcome::Put(_) | Outcome::Delivered(_, _) => push_number(text, b" ", frame.len() as u64),
+        _ => Ok(()),
+    }
 }
 
 /// Appends an event as scenarios spell it, but without the address of a group and without ticks. The size of a frame
 /// in bytes replaces its bytes. For an event that is a tick, appends only the word `tick`.
-fn push_event(text: &mut Vec<u8>, names: &[String], event: &Event<'_>) -> Result<(), AllocError>
+pub(crate) fn push_event(
+    text: &mut Vec<u8>,
+    names: &[String],
+    event: &Event<'_>,
+) -> Result<(), AllocError>
     ensures { OnOk result
         (text.new.items ≡ text.old.items ++ texts.event_text (map string_bytes names.now) event.now) }
 {
     match event {
         Event::Send { host, frame, .. } => {
-            push_counted(text, b" send ", names, *host, frame.len() as u64)
+            push_counted(text, b" send ", names, *host, b" ", frame.len() as u64)
         }
         Event::Recv { host, socket, .. } => {
-            push_counted(text, b" recv ", names, *host, *socket as u64)
+            push_counted(text, b" recv ", names, *host, b" ", *socket as u64)
         }
         Event::Interrupt { host, .. } => push_host(text, b" interrupt ", names, *host),
         Event::Reset { host, .. } => push_host(text, b" reset ", names, *host),
         Event::Join { host, .. } => push_host(text, b" join ", names, *host),
         Event::Leave { host, .. } => push_host(text, b" leave ", names, *host),
         Event::Tick(_) => text.extend_from_slice(b" tick"),
-    }
-}
-
-/// Returns a blank and the words for the result of a send.
-fn sent_word(sent: Result<(), SendError>) -> &'static [u8]
-    ensures { result.now ≡ texts.sent_word sent }
-{
-    match sent {
-        Ok(()) => b" ok",
-        Err(SendError::TooShort) => b" E20 TooShort",
-        Err(SendError::TooLong) => b" E21 TooLong",
-        Err(SendError::RingFull) => b" E22 RingFull",
-    }
-}
-
-/// Returns a blank and the words for the error of a recv that returned no frame.
-fn recv_word(error: RecvError) -> &'static [u8]
-    ensures { result.now ≡ texts.recv_word error }
-{
-    match error {
-        RecvError::Empty => b" E30 Empty",
-        RecvError::NoSocket => b" E31 NoSocket",
     }
 }
 
@@ -222,9 +180,13 @@ fn answer_word(answer: &Answer<()>) -> &'static [u8]
     ensures { (frame : List ℕ) → result.now ≡ texts.answer_word (answer_with frame answer.now) }
 {
     match answer {
-        Answer::Sent(sent) => sent_word(*sent),
+        Answer::Sent(Ok(())) => b" ok",
+        Answer::Sent(Err(SendError::TooShort)) => b" E20 TooShort",
+        Answer::Sent(Err(SendError::TooLong)) => b" E21 TooLong",
+        Answer::Sent(Err(SendError::RingFull)) => b" E22 RingFull",
         Answer::Received(Ok(())) => b" ok",
-        Answer::Received(Err(error)) => recv_word(*error),
+        Answer::Received(Err(RecvError::Empty)) => b" E30 Empty",
+        Answer::Received(Err(RecvError::NoSocket)) => b" E31 NoSocket",
         Answer::Interrupted(Handled::NotMine) => b" notmine",
         Answer::Interrupted(Handled::Handled { .. }) => b" handled",
         Answer::Joined(changed) | Answer::Left(changed) => group_word(*changed),
@@ -234,27 +196,20 @@ fn answer_word(answer: &Answer<()>) -> &'static [u8]
     }
 }
 
-/// Appends ` SENDING HOLDING on N`: the numbers of frames to be sent and of held frames that a reset gave up. N is the
-/// number of the reset's accesses up to and including the one that enabled the receiver again.
-fn push_given_up(
+/// Appends the answer to an event, and its numbers. For a recv, this is the size in bytes of `frame`, which the socket
+/// returned. For an interrupt, this is the number of frames taken. For a reset, these are `SENDING HOLDING on N`: the
+/// numbers of frames to be sent and of held frames that the reset gave up, and the number of its accesses up to and
+/// including the one that enabled the receiver again. Other answers have no numbers. Appends nothing for `NoCall`, the
+/// answer to an event that is a tick.
+pub(crate) fn push_answer(
     text: &mut Vec<u8>,
-    sending: u64,
-    holding: u64,
-    on_after: u64,
+    answer: &Answer<()>,
+    frame: &[u8],
 ) -> Result<(), AllocError>
-    ensures { OnOk result (text.new.items ≡ text.old.items ++ texts.given_up_numbers sending holding on_after) }
-{
-    push_number(text, b" ", sending)?;
-    push_number(text, b" ", holding)?;
-    push_number(text, b" on ", on_after)
-}
-
-/// Appends the numbers of an answer. For a recv, this is the size in bytes of `frame`, which the socket returned. For
-/// an interrupt, this is the number of frames taken. For a reset, see [`push_given_up`]. Other answers have no numbers.
-fn push_numbers(text: &mut Vec<u8>, answer: &Answer<()>, frame: &[u8]) -> Result<(), AllocError>
     ensures { OnOk result
-        (text.new.items ≡ text.old.items ++ texts.answer_numbers (answer_with frame.now answer.now)) }
+        (text.new.items ≡ text.old.items ++ texts.answer_text (answer_with frame.now answer.now)) }
 {
+    text.extend_from_slice(answer_word(answer))?;
     match answer {
         Answer::Received(Ok(())) => push_number(text, b" ", frame.len() as u64),
         Answer::Interrupted(Handled::Handled { taken }) => push_number(text, b" ", *taken),
@@ -262,52 +217,21 @@ fn push_numbers(text: &mut Vec<u8>, answer: &Answer<()>, frame: &[u8]) -> Result
             sending,
             holding,
             on_after,
-        } => push_given_up(text, sending.len() as u64, holding.len() as u64, *on_after),
+        } => {
+            push_number(text, b" ", sending.len() as u64)?;
+            push_number(text, b" ", holding.len() as u64)?;
+            push_number(text, b" on ", *on_after)
+        }
         _ => Ok(()),
     }
 }
 
-/// Appends the answer to an event, with the size in bytes of the frame that a socket returned. Appends nothing for
-/// `NoCall`, the answer to an event that is a tick.
-fn push_answer(text: &mut Vec<u8>, answer: &Answer<()>, frame: &[u8]) -> Result<(), AllocError>
-    ensures { OnOk result
-        (text.new.items ≡ text.old.items ++ texts.answer_text (answer_with frame.now answer.now)) }
-{
-    text.extend_from_slice(answer_word(answer))?;
-    push_numbers(text, answer, frame)
-}
-
 /// Appends `EVENT line LINE`: the number of an event or a drain, and the number of its line in the scenario.
-fn push_place(text: &mut Vec<u8>, place: Place) -> Result<(), AllocError>
+pub(crate) fn push_place(text: &mut Vec<u8>, place: Place) -> Result<(), AllocError>
     ensures { OnOk result (text.new.items ≡ text.old.items ++ lines.place_text place) }
 {
     push_number(text, b"", place.number)?;
     push_number(text, b" line ", place.line)
-}
-
-/// Appends the line of the event at this place: `EVENT line LINE CALL ANSWER accesses N`, `outcomes`, and a line feed.
-/// `outcomes` is the text of the event's ticks. `frame` is the frame that a socket returned, if the answer has one.
-#[inline(never)]
-pub(crate) fn push_line(
-    text: &mut Vec<u8>,
-    names: &[String],
-    place: Place,
-    event: &Event<'_>,
-    accesses: u64,
-    answer: &Answer<()>,
-    frame: &[u8],
-    outcomes: &[u8],
-) -> Result<(), AllocError>
-    ensures { OnOk result (text.new.items ≡ text.old.items
-        ++ lines.event_line (map string_bytes names.now) place event.now accesses (answer_with frame.now answer.now)
-        outcomes.now) }
-{
-    push_place(text, place)?;
-    push_event(text, names, event)?;
-    push_answer(text, answer, frame)?;
-    push_number(text, b" accesses ", accesses)?;
-    text.extend_from_slice(outcomes)?;
-    text.extend_from_slice(b"\n")
 }
 
 /// Appends the line of the drain at this place: `EVENT line LINE drain HOST ok N`, and a line feed. N is `count`, the
@@ -323,7 +247,6 @@ pub(crate) fn push_drain(
         ++ lines.drain_line (map string_bytes names.now) place host count) }
 {
     push_place(text, place)?;
-    push_host(text, b" drain ", names, host)?;
-    push_number(text, b" ok ", count as u64)?;
+    push_counted(text, b" drain ", names, host, b" ok ", count as u64)?;
     text.extend_from_slice(b"\n")
 }

@@ -6,19 +6,18 @@ ghost use Rattle.host_calls.specs.Happenings.{tick_host, outcome_happenings};
 ghost use Rattle.network_plan.specs.Answers.{answer_with};
 ghost use Rattle.run_record.specs.Acts.{Drained};
 ghost use Rattle.run_record.specs.DrainedView.{drained_frame};
-ghost use Rattle.run_record.specs.Kept.{FramesGrow, PutsGrow, is_put, put_frames_in, returned_in};
+ghost use Rattle.run_record.specs.Kept.{FramesGrow, PutsGrow, put_frames_in, returned_in};
 ghost use Rattle.run_record.specs.EventLogView.{plan_name};
-ghost use Rattle.run_record.specs.Recording.{IsNewRecord, NotesAnswer, NotesLine, answered};
+ghost use Rattle.run_record.specs.Recording.{IsNewRecord, NotesAnswer, answered};
 ghost use Rattle.run_record.specs.RunLogs.{new_log};
-ghost use Rattle.run_record.specs.Tallies.{AreNoted, IsPassage, TalliesGrow, TallyCounts, TallyGivesUp};
+ghost use Rattle.run_record.specs.Tallies.{AreNoted, TalliesGrow, TallyCounts};
 ghost use Rattle.run_record.specs.Tallies.{given_up_of, no_tally};
 ghost use Rattle.wire.specs.DrainedNetworks.{said_of_drain};
-ghost use Rattle.wire.specs.Runs.{accepted_by_answer, given_by_answer};
 
 use crate::drained::DrainedFrame;
 use crate::event_text::Place;
 use crate::kept::KeptFrames;
-use crate::run_log::RunLog;
+use crate::run_log::{EventLog, Refusals, RunLog};
 use crate::tally::{Passage, Tally};
 use adapter::{Fate, Outcome, StepKind};
 use network_plan::{Answer, Event, HostPlan};
@@ -58,22 +57,7 @@ fn tick_host(tick: Tick) -> usize
     }
 }
 
-/// Returns what happened to the frame of an outcome, as it is counted; `None` if the outcome isn't counted. The outcome
-/// contains no frame, so the clause holds for each frame.
-fn passage_of(outcome: &Outcome<()>) -> Option<Passage>
-    ensures { (frame : List ℕ) → IsPassage (with_frame frame outcome.now) result }
-{
-    match outcome {
-        Outcome::Put(_) => Some(Passage::Put),
-        Outcome::Delivered(_, Fate::Stored) => Some(Passage::Stored),
-        Outcome::Delivered(_, Fate::Off) => Some(Passage::Off),
-        Outcome::Delivered(_, _) => Some(Passage::Reached),
-        _ => None,
-    }
-}
-
 /// Counts one frame, to which `passage` happened, in the counts of a host, if the host exists.
-#[tactic(auto, using(crate::proofs::Noting::counts_there, crate::proofs::Noting::counts_nowhere))]
 fn count(hosts: &mut [Tally], host: usize, passage: Passage)
     ensures { TallyCounts host passage hosts.old hosts.new }
 {
@@ -82,35 +66,22 @@ fn count(hosts: &mut [Tally], host: usize, passage: Passage)
     }
 }
 
-/// Adds the numbers of frames that a reset gave up to the counts of a host, and notes that the host was reset.
-/// `sending` frames were to be sent, and `holding` frames were held. Changes nothing if the host doesn't exist.
-#[tactic(auto, using(crate::proofs::Noting::given_up_there, crate::proofs::Noting::given_up_nowhere))]
-fn count_given_up(hosts: &mut [Tally], host: usize, sending: u64, holding: u64)
-    ensures { TallyGivesUp host sending holding hosts.old hosts.new }
-{
-    if host < hosts.len() {
-        hosts[host] = hosts[host].given_up(sending, holding);
-    }
-}
-
 /// Counts what happened to the frame of an outcome ([`Passage`]) at a host, if the outcome is counted and the host
 /// exists. The outcome contains no frame, so the clause holds for each frame.
-#[tactic(auto, using(crate::proofs::Noting::told_passage, crate::proofs::Noting::told_nothing))]
+#[tactic(auto, using(crate::proofs::Noting::told_nothing))]
 #[inline(always)]
 fn note_outcome(hosts: &mut [Tally], host: usize, outcome: &Outcome<()>)
     ensures { (frame : List ℕ)
         → TalliesGrow (outcome_happenings host (with_frame frame outcome.now)) hosts.old hosts.new }
 {
-    if let Some(passage) = passage_of(outcome) {
-        count(hosts, host, passage);
-    }
-}
-
-/// Returns whether the outcome is that a frame was put on a wire.
-fn is_put(outcome: &Outcome<()>) -> bool
-    ensures { result ≡ is_put outcome.now }
-{
-    matches!(outcome, Outcome::Put(_))
+    let passage = match outcome {
+        Outcome::Put(_) => Passage::Put,
+        Outcome::Delivered(_, Fate::Stored) => Passage::Stored,
+        Outcome::Delivered(_, Fate::Off) => Passage::Off,
+        Outcome::Delivered(_, _) => Passage::Reached,
+        _ => return,
+    };
+    count(hosts, host, passage);
 }
 
 /// Records the frame of an outcome at a host, if the frame was put on a wire and such frames are recorded. `number` is
@@ -128,35 +99,9 @@ fn note_put(
     ensures { OnOk result (PutsGrow (put_frames_in number (outcome_happenings host (with_frame frame.now outcome.now)))
         puts.old puts.new) }
 {
-    if !is_put(outcome) {
-        return Ok(());
-    }
-    match puts {
-        Some(puts) => puts.push(host, 0, number, frame),
-        None => Ok(()),
-    }
-}
-
-/// Makes room for the frames that `ticks` ticks may put on wires, if such frames are recorded. The recorded frames
-/// don't change. Fails if memory is refused.
-fn reserve_puts(puts: &mut Option<KeptFrames>, ticks: usize) -> Result<(), AllocError>
-    ensures { puts.new ≡ puts.old }
-{
-    match puts {
-        Some(puts) => puts.reserve(ticks),
-        None => Ok(()),
-    }
-}
-
-/// Counts the frame of a send, if the answer is that the send accepted the frame. Only the number of accepted frames is
-/// counted, so the clause holds for each frame.
-#[tactic(auto, using(crate::specs::RecordingLaws::grows_not))]
-fn note_sent(hosts: &mut [Tally], host: usize, answer: &Answer<()>)
-    ensures { (frame given : List ℕ)
-        → TalliesGrow (accepted_by_answer host frame (answer_with given answer.now)) hosts.old hosts.new }
-{
-    if let Answer::Sent(Ok(())) = answer {
-        count(hosts, host, Passage::Accepted);
+    match (outcome, puts) {
+        (Outcome::Put(_), Some(puts)) => puts.push(host, 0, number, frame),
+        _ => Ok(()),
     }
 }
 
@@ -172,7 +117,9 @@ fn note_reset(hosts: &mut [Tally], host: usize, answer: &Answer<()>)
         ..
     } = answer
     {
-        count_given_up(hosts, host, sending.len() as u64, holding.len() as u64);
+        if host < hosts.len() {
+            hosts[host] = hosts[host].given_up(sending.len() as u64, holding.len() as u64);
+        }
     }
 }
 
@@ -214,9 +161,9 @@ impl Record {
         ensures log { IfOk result (λ noted. noted.log ≡ new_log (map plan_name plans.now) events) }
     {
         let hosts = vec![in alloc; Tally::default(); plans.len()]?;
-        let log = match events {
-            true => RunLog::with_lines(alloc, plans)?,
-            false => RunLog::without_lines(),
+        let lines = match events {
+            true => Some(EventLog::new(alloc, plans)?),
+            false => None,
         };
         Ok(Record {
             number: 0,
@@ -227,7 +174,10 @@ impl Record {
                 0 => None,
                 _ => Some(KeptFrames::new(alloc)),
             },
-            log,
+            log: RunLog {
+                refusals: Refusals::default(),
+                lines,
+            },
             failed: false,
         })
     }
@@ -238,7 +188,9 @@ impl Record {
     fn reserve(&mut self, event: &Event<'_>, ticks: usize) -> Result<(), AllocError>
         ensures { self.new ≡ self.old }
     {
-        reserve_puts(&mut self.puts, ticks)?;
+        if let Some(puts) = &mut self.puts {
+            puts.reserve(ticks)?;
+        }
         self.log.reserve(ticks)?;
         match event {
             Event::Recv { .. } => self.returned.reserve(1),
@@ -246,50 +198,27 @@ impl Record {
         }
     }
 
-    /// Counts the answer to an event if the answer is a refusal, and records the event's line if lines are recorded.
-    /// Sets `failed` if memory was refused.
-    #[inline(always)]
-    fn note_line(&mut self, event: &Event<'_>, accesses: u64, answer: &Answer<()>, frame: &[u8])
-        ensures { NotesLine event.now accesses (answer_with frame.now answer.now) self.old self.new }
-    {
-        let place = Place {
-            number: self.number,
-            line: self.line,
-        };
-        if self.log.end(place, event, accesses, answer, frame).is_err() {
-            self.failed = true;
-        }
-    }
-
-    /// Counts and records the frame that a socket returned, of at most 1,518 bytes, if the answer is that the socket
-    /// returned a frame. Sets `failed` if memory was refused.
-    #[inline(always)]
-    fn note_received(&mut self, host: usize, socket: usize, answer: &Answer<()>, frame: &[u8])
-        requires fits { length frame.now ≤ 1518 }
-        ensures { NotesAnswer (given_by_answer host socket (answer_with frame.now answer.now)) self.old self.new }
-    {
-        if let Answer::Received(Ok(())) = answer {
-            count(self.hosts.as_mut_slice(), host, Passage::Given);
-            if self
-                .returned
-                .push(host, socket, self.number, frame)
-                .is_err()
-            {
-                self.failed = true;
-            }
-        }
-    }
-
     /// Counts the frames that the answer to a send, a recv or a reset reports, and records the frame that a socket
-    /// returned. Changes nothing for other events. `frame` must have at most 1,518 bytes.
+    /// returned. Sets `failed` if memory was refused for this frame. Changes nothing for other events. `frame` must
+    /// have at most 1,518 bytes.
     #[inline(always)]
     fn note_answer(&mut self, event: &Event<'_>, answer: &Answer<()>, frame: &[u8])
         requires fits { length frame.now ≤ 1518 }
         ensures { NotesAnswer (answered event.now (answer_with frame.now answer.now)) self.old self.new }
     {
         match event {
-            Event::Send { host, .. } => note_sent(self.hosts.as_mut_slice(), *host, answer),
-            Event::Recv { host, socket, .. } => self.note_received(*host, *socket, answer, frame),
+            Event::Send { host, .. } => {
+                if let Answer::Sent(Ok(())) = answer {
+                    count(self.hosts.as_mut_slice(), *host, Passage::Accepted);
+                }
+            }
+            Event::Recv { host, socket, .. } => {
+                if let Answer::Received(Ok(())) = answer {
+                    count(self.hosts.as_mut_slice(), *host, Passage::Given);
+                    let kept = self.returned.push(*host, *socket, self.number, frame);
+                    self.failed |= kept.is_err();
+                }
+            }
             Event::Reset { host, .. } => note_reset(self.hosts.as_mut_slice(), *host, answer),
             Event::Interrupt { .. } | Event::Join { .. } | Event::Leave { .. } | Event::Tick(_) =>
                 {}
@@ -331,12 +260,8 @@ impl Observer for Record {
     fn note(&mut self, tick: Tick, accesses: u64, outcome: Outcome<()>, frame: &[u8]) {
         let host = tick_host(tick);
         note_outcome(self.hosts.as_mut_slice(), host, &outcome);
-        if note_put(&mut self.puts, host, self.number, &outcome, frame).is_err() {
-            self.failed = true;
-        }
-        if self.log.note(tick, accesses, &outcome, frame).is_err() {
-            self.failed = true;
-        }
+        self.failed |= note_put(&mut self.puts, host, self.number, &outcome, frame).is_err();
+        self.failed |= self.log.note(tick, accesses, &outcome, frame).is_err();
     }
 }
 
@@ -361,11 +286,18 @@ impl RunObserver for Record {
         !self.failed && self.reserve(event, ticks).is_ok()
     }
 
-    // The record changes as `NotesLine` and then `NotesAnswer` state. Then `number` grows by 1, unless it is the
-    // greatest `u64`.
+    // Counts the answer if it is a refusal, and records the event's line if lines are recorded (`NotesLine`). Then
+    // counts and records what the answer reports (`NotesAnswer`), and adds 1 to `number`, which saturates.
     #[inline(always)]
     fn answer(&mut self, event: &Event<'_>, accesses: u64, answer: Answer<()>, frame: &[u8]) {
-        self.note_line(event, accesses, &answer, frame);
+        let place = Place {
+            number: self.number,
+            line: self.line,
+        };
+        self.failed |= self
+            .log
+            .end(place, event, accesses, &answer, frame)
+            .is_err();
         self.note_answer(event, &answer, frame);
         self.number = self.number.saturating_add(1);
     }

@@ -1,15 +1,17 @@
 //! The record of the answers of a run: the numbers of refused calls, and on request a line for each event and drain.
-ghost use Rattle.std.specs.Prelude.{◌≡◌, ◌<◌, ℕ, false, true, List, IfOk, OnErr, OnOk, map, string_bytes};
+ghost use Rattle.std.specs.Prelude.{◌≡◌, ◌<◌, ℕ, List, IfOk, OnErr, OnOk, map};
 ghost use Rattle.std.specs.Io.KnownBytes.{Appends};
 ghost use Rattle.adapter.specs.Outcomes.{with_frame};
 ghost use Rattle.network_plan.specs.Answers.{answer_with};
 ghost use Rattle.pcap_trace.specs.Devices.{AppendsFront, CountsFailures};
 ghost use Rattle.stations.specs.ToldTicks.{tick_told};
-ghost use Rattle.run_record.specs.EventLines.{no_lines};
+ghost use Rattle.run_record.specs.EventLines.{end_logged, no_lines};
 ghost use Rattle.run_record.specs.EventLogView.{plan_name};
-ghost use Rattle.run_record.specs.RunLogs.{act_drained, answered_log, log_ended, log_heard, new_log};
+ghost use Rattle.run_record.specs.RunLogs.{act_drained, answered_log, log_ended, log_heard};
 
-use crate::event_text::{Place, push_drain, push_line, push_told};
+use crate::event_text::{
+    Place, push_answer, push_drain, push_event, push_number, push_place, push_told,
+};
 use adapter::Outcome;
 use network_plan::{Answer, Event, HostPlan};
 use packet_socket::RecvError;
@@ -68,24 +70,17 @@ pub struct RunLog {
     pub lines: Option<EventLog>,
 }
 
-/// Returns copies of the names of hosts, in order. Fails if memory is refused.
-fn names_of(alloc: Global, plans: &[HostPlan]) -> Result<Vec<String>, AllocError>
-    ensures { IfOk result (λ names. map string_bytes names.items ≡ map plan_name plans.now) }
-{
-    let mut names = Vec::new(alloc);
-    for plan in plans {
-        names.push(plan.name.clone()?)?;
-    }
-    Ok(names)
-}
-
 impl EventLog {
     /// Returns a log of these hosts without lines. Fails if memory is refused.
-    fn new(alloc: Global, plans: &[HostPlan]) -> Result<EventLog, AllocError>
+    pub(crate) fn new(alloc: Global, plans: &[HostPlan]) -> Result<EventLog, AllocError>
         ensures { IfOk result (λ log. log ≡ no_lines (map plan_name plans.now)) }
     {
+        let mut names = Vec::new(alloc);
+        for plan in plans {
+            names.push(plan.name.clone()?)?;
+        }
         Ok(EventLog {
-            names: names_of(alloc, plans)?,
+            names,
             outcomes: Vec::new(alloc),
             text: Vec::new(alloc),
         })
@@ -101,6 +96,31 @@ impl EventLog {
         let outcomes = ticks.saturating_mul(LONGEST_TOLD);
         self.outcomes.reserve(outcomes)?;
         self.text.reserve(outcomes.saturating_add(LONGEST_REST))
+    }
+
+    /// Appends the line of the event at this place, and removes the texts of the event's ticks: `EVENT line LINE CALL
+    /// ANSWER accesses N`, these texts, and a line feed. `frame` is the frame that a socket returned, if the answer has
+    /// one. Fails if memory is refused.
+    #[inline(never)]
+    fn end(
+        &mut self,
+        place: Place,
+        event: &Event<'_>,
+        accesses: u64,
+        answer: &Answer<()>,
+        frame: &[u8],
+    ) -> Result<(), AllocError>
+        ensures { OnOk result
+            (self.new ≡ end_logged place event.now accesses (answer_with frame.now answer.now) self.old) }
+    {
+        push_place(&mut self.text, place)?;
+        push_event(&mut self.text, self.names.as_slice(), event)?;
+        push_answer(&mut self.text, answer, frame)?;
+        push_number(&mut self.text, b" accesses ", accesses)?;
+        self.text.extend_from_slice(self.outcomes.as_slice())?;
+        self.text.extend_from_slice(b"\n")?;
+        self.outcomes.clear();
+        Ok(())
     }
 
     /// Writes the lines to a sink. Allocates no memory. The sink's number of failures must be able to grow by 1.
@@ -123,27 +143,6 @@ impl EventLog {
 }
 
 impl RunLog {
-    /// Returns a log without answers, which records no lines, so it needs no names of hosts.
-    pub(crate) fn without_lines() -> RunLog
-        ensures { (names : List (List ℕ)) → result ≡ new_log names false }
-    {
-        RunLog {
-            refusals: Refusals::default(),
-            lines: None,
-        }
-    }
-
-    /// Returns a log without answers, which records a line for each event and drain. `plans` are the plans of the
-    /// hosts, whose names the lines contain.
-    pub(crate) fn with_lines(alloc: Global, plans: &[HostPlan]) -> Result<RunLog, AllocError>
-        ensures { IfOk result (λ log. log ≡ new_log (map plan_name plans.now) true) }
-    {
-        Ok(RunLog {
-            refusals: Refusals::default(),
-            lines: Some(EventLog::new(alloc, plans)?),
-        })
-    }
-
     /// Makes room for the line of an event with `ticks` ticks, if lines are recorded. The log's value doesn't change.
     /// Fails if memory is refused.
     #[inline(always)]
@@ -210,21 +209,10 @@ impl RunLog {
             (self.new ≡ log_ended place event.now accesses (answer_with frame.now answer.now) self.old) }
     {
         self.count(answer);
-        let Some(log) = &mut self.lines else {
-            return Ok(());
-        };
-        push_line(
-            &mut log.text,
-            log.names.as_slice(),
-            place,
-            event,
-            accesses,
-            answer,
-            frame,
-            log.outcomes.as_slice(),
-        )?;
-        log.outcomes.clear();
-        Ok(())
+        match &mut self.lines {
+            Some(lines) => lines.end(place, event, accesses, answer, frame),
+            None => Ok(()),
+        }
     }
 
     /// Records the line of the drain at this place, in which a host returned `count` frames, if lines are recorded.
