@@ -3,7 +3,7 @@ use Rattle.std.proofs.Common.{◌≡◌, ◌≢◌, ◌++◌, ℕ, List, [], ◌
 use Rattle.std.proofs.lemmas.List.{append-nil}
 use Rattle.std.specs.Prelude.{Err, IfErr, IfSome, IsErrAnd, Ok, OnOk, Result}
 use Rattle.std.specs.Io.KnownBytes.{Keeps}
-use Rattle.adapter_server.specs.Answers.{AnswersLine, Reaches, Refuses, TellsAnswer}
+use Rattle.adapter_server.specs.Answers.{AnswersLine, Reaches, Refuses}
 use Rattle.server_output.specs.Order.{IsBeginning, WritesText, TellsPart}
 use Rattle.server_requests.specs.Lines.{behind_line, first_line, lines_of}
 use Rattle.server_requests.specs.LinesRead.{BothKnown, IsLong, IsNextLine, IsWholeLine}
@@ -99,11 +99,9 @@ pub answering_stopped : {T : Type 0} (result : Result T ServeError) (cause : Ans
 answering_stopped (Ok value) cause Done Front stopped = absurd stopped
 answering_stopped (Err error) cause Done Front stopped = (tt, λ read. absurd (never_read cause (sym stopped ∙ read)))
 
-pub answer_sent : {T E S : Type 0} (result : Result T E) (Answers : S → Text → Type 0) (b : S)
-    (before after sent : Option (List ℕ)) → WritesText before after (Answers b) → Keeps after sent
-    → TellsAnswer result before sent Answers b
-answer_sent (Ok value) Answers b before after sent told kept = tells_sent before after sent (Answers b) told kept
-answer_sent (Err error) Answers b before after sent told kept =
+pub answer_sent : {S : Type 0} (Answers : S → Text → Type 0) (b : S) (before after sent : Option (List ℕ))
+    → WritesText before after (Answers b) → Keeps after sent → TellsPart before sent (Reaches Answers)
+answer_sent Answers b before after sent told kept =
     part_whole (Reaches Answers) before sent
     (tells_so (Answers b) (Reaches Answers) before sent (λ text answers. inr (b, answers))
     (tells_sent before after sent (Answers b) told kept))

@@ -5,6 +5,7 @@ use Rattle.adapter_server.specs.Answers.{AnswersLine, Reaches, Refuses}
 use Rattle.server_requests.specs.Lines.{lines_of, most_line_bytes}
 use Rattle.server_output.specs.Order.{IsBeginning, WritesText}
 use Rattle.played_adapter.specs.Order.{InOrder}
+use Rattle.played_adapter.specs.declared.player.PlayedAdapter.{PlayedAdapter}
 use Rattle.adapter_server.specs.NewSessions.{new_session}
 use Rattle.server_output.specs.Texts.{Text}
 use Rattle.server_requests.specs.declared.line_reader.NextLine.{NextLine}
@@ -19,6 +20,13 @@ use Rattle.adapter_server.specs.declared.snapshot.Server.{Server}
 -- a server before the first request: a new session, and no saved copy
 abbrev pub new_server : ServeOptions → Option Player → (address : Option Ptr) → Server
 new_server options player address = record { session = new_session options player address; saved = None }
+
+-- a server before the first request, with this adapter
+abbrev pub server_with : PlayedAdapter → ServeOptions → Option Player → Server
+server_with device options player = record {
+  session = record (new_session options player device.address) { device = device };
+  saved = None;
+}
 
 -- `Holds` is true for a new server with these options and this player, for some address of its memory.
 abbrev pub FromNew : ServeOptions → Option Player → (Holds : Server → Type 0) → Type 0

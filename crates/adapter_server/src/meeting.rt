@@ -73,7 +73,7 @@ impl<'a> Task<'a> {
             Task::Choose(_) => {
                 // A request for a number has no moves, so it is only counted. Counting changes which actions are due,
                 // so the number is found first.
-                let event = agenda.coming(Before::Choice, b"choose");
+                let event = agenda.coming(Before::Choice, self.word().as_bytes());
                 let wanted = agenda.chosen(&event);
                 agenda.count(&event);
                 wanted

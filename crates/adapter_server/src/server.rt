@@ -2,41 +2,24 @@
 // the output (`W.contents`).
 
 ghost use Rattle.std.specs.Prelude.{◌≡◌, IfErr, IfOk, IfSome, OnErr, OnOk};
-ghost use Rattle.adapter_server.specs.Answers.{TellsAnswer};
 ghost use Rattle.server_output.specs.Order.{WritesText};
-ghost use Rattle.adapter_server.specs.Serving.{AnswersNext, ServesAll, ServesBegun, ServesFront, ServesPart};
-ghost use Rattle.adapter_server.specs.Serving.{ServesSome, ServesWhole};
+ghost use Rattle.adapter_server.specs.Serving.{ServesAll, ServesBegun, ServesFront, ServesPart, ServesSome};
+ghost use Rattle.adapter_server.specs.Serving.{ServesWhole};
 ghost use Rattle.adapter_server.specs.declared.serve_error.ServeError.TheVariants as errors;
 
-use crate::beginning::new_server;
+use crate::beginning::{new_device, new_server};
 use crate::options::ServeOptions;
 use crate::serve_error::ServeError;
 use crate::snapshot::Server;
-use server_output::{AnswerError, send};
+use server_output::send;
 use server_requests::{MOST_LINE_BYTES, NextLine, next_line};
 use std::alloc::Global;
 use std::io::{BufRead, Write};
 use step_schedules::Player;
 use text::turns;
 
-/// Writes the answer to a line, and flushes the output. At the end of the input, only flushes the output. `next` is the
-/// result of reading the line.
-fn answer_and_send<W: Write>(
-    server: &mut Server,
-    alloc: Global,
-    output: &mut W,
-    next: NextLine,
-    line: &[u8],
-) -> Result<(), AnswerError>
-    ensures { TellsAnswer result (W.contents output.old) (W.contents output.new)
-        (AnswersNext next line.now server.old) server.new }
-{
-    server.answer_next(alloc, output, next, line)?;
-    send(output)
-}
-
-/// Answers each line of the input before reading the next line, until the input ends. The errors are those of
-/// [`serve`].
+/// Answers each line of the input, and flushes the output, before reading the next line, until the input ends. The
+/// errors are those of [`serve`].
 fn serve_lines<R: BufRead, W: Write>(
     server: &mut Server,
     alloc: Global,
@@ -59,7 +42,8 @@ fn serve_lines<R: BufRead, W: Write>(
         if let NextLine::End = next {
             return Ok(());
         }
-        answer_and_send(server, alloc, output, next, line.as_slice())?;
+        server.answer_next(alloc, output, next, line.as_slice())?;
+        send(output)?;
     }
     // The input had a line for each of the 2^64 - 1 turns.
     Err(ServeError::Read)
@@ -100,10 +84,10 @@ pub fn serve<R: BufRead + Drop, W: Write>(
     ensures begun { OnErr result (IfSome (R.remaining input)
         (λ bytes. ServesPart options.now player bytes (W.contents output.old) (W.contents output.new))) }
 {
-    let mut server = new_server(alloc, options, player)?;
+    let device = new_device(alloc, options)?;
+    let mut server = new_server(alloc, options, device, player);
     let served = serve_lines(&mut server, alloc, &mut input, output);
     let left = server.into_player();
     // At an error, the player is dropped.
-    served?;
-    Ok(left)
+    served.and(Ok(left))
 }

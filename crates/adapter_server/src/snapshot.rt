@@ -32,15 +32,17 @@ impl Server {
 
     /// Returns the player: the agenda and the recorder of the session. Returns `None` if one of them is missing. Drops
     /// everything else.
-    pub(crate) fn into_player(mut self) -> Option<Player>
+    pub(crate) fn into_player(self) -> Option<Player>
         ensures { result ≡ player_of self.session.agenda self.session.kept.recorder }
     {
-        let agenda = self.session.agenda.take();
-        let recorder = self.session.kept.recorder.take();
-        drop(self);
-        match (agenda, recorder) {
-            (Some(agenda), Some(recorder)) => Some(Player { agenda, recorder }),
-            _ => None,
+        let Server { mut session, saved } = self;
+        let agenda = session.agenda.take();
+        let recorder = session.kept.recorder.take();
+        drop(session);
+        drop(saved);
+        match agenda.zip(recorder) {
+            Some((agenda, recorder)) => Some(Player { agenda, recorder }),
+            None => None,
         }
     }
 

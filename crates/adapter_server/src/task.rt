@@ -124,8 +124,9 @@ impl<'a> Task<'a> {
             ≡ task_name self.entry device.now.machine.world.adapter) }
     {
         match self {
-            Task::Read(place, address, _) => target_at(device, place, address).to_string(alloc),
-            Task::Write(place, address, _) => target_at(device, place, address).to_string(alloc),
+            Task::Read(place, address, _) | Task::Write(place, address, _) => {
+                target_at(device, place, address).to_string(alloc)
+            }
             _ => String::from_str(alloc, self.word()),
         }
     }
@@ -170,10 +171,7 @@ impl<'a> Task<'a> {
                 Ok(Answer::Word(fate_word(fate)))
             }
             Task::Settle => Ok(Answer::Number(device.serve_settle(observer))),
-            Task::Offer(frame) => match device.offered.push(alloc, frame) {
-                Ok(()) => Ok(Answer::Done),
-                Err(error) => Err(error),
-            },
+            Task::Offer(frame) => device.offered.push(alloc, frame).and(Ok(Answer::Done)),
             Task::Choose(limit) => {
                 let number = device.serve_choose(limit, wanted, observer);
                 Ok(Answer::Number(u64::from(number)))

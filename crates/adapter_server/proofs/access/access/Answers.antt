@@ -1,4 +1,4 @@
-use Rattle.std.proofs.Common.{◌≡◌, ◌∷◌, ◌∙◌, [], ℕ, Bool, List, ap, codes, if◌then◌else◌, rules, subst, sym, true}
+use Rattle.std.proofs.Common.{◌≡◌, ◌∷◌, ◌∙◌, [], Bool, ap, codes, if◌then◌else◌, rules, subst, sym, true}
 use Rattle.std.specs.List.{concat}
 use Rattle.server_output.specs.Texts.{Text}
 use Rattle.adapter_server.specs.Answers.{TellsAnswer}

@@ -69,7 +69,8 @@ returns-in-Enabled g c =
 pub returns-in-Ok : goal.returns-in-Ok
 returns-in-Ok g c =
     let a = c.args.session.now in
-    let named : c.as_slice.result.now ≡ target_text (target_at_place c.in-Ok.place c.in-Target.address a) = search rules in
+    let named : c.as_slice.result.now ≡ target_text (target_at_place c.in-Ok.place c.in-Target.address a) =
+    c.as_slice.ensures ∙ c.name-name.ensures ∙ ap target_text c.target_at.ensures in
     let tells : TellsAnswer c.say_word-in-Ok.result (g.W.Write.contents c.args.out.now) (g.W.Write.contents c.say_word-in-Ok.new.out)
     (AnswersTarget (place_in a c.in-Target.address c.in-Target.count) c.in-Target.address a) a =
     rw (← c.place_of.ensures, c.in-Ok.is) (replied c.say_word-in-Ok.result _ a _ _ (rw named at c.say_word-in-Ok.ensures)) in

@@ -5,8 +5,10 @@ use Rattle.adapter_server.specs.declared.serve_error.ServeError.TheVariants as e
 use Rattle.server_output.proofs.PartsWritten.{whatever_err}
 use Rattle.server_output.specs.declared.answer_error.AnswerError.TheVariants as causes
 use Rattle.adapter_server.proofs.FromNew.{read_from}
-use Rattle.adapter_server.proofs.ServedLines.{never_ok, never_read, serves_front, serves_lines, serves_next, serves_none, whatever_error}
-use Rattle.adapter_server.proofs.ServedParts.{answering_stopped, serves_part, serves_stopped}
+use Rattle.adapter_server.proofs.ServedLines.{never_ok, never_read, serves_front, serves_lines, serves_next, serves_none, tells_sent}
+use Rattle.adapter_server.proofs.ServedLines.{whatever_error}
+use Rattle.adapter_server.specs.Serving.{AnswersNext}
+use Rattle.adapter_server.proofs.ServedParts.{answer_sent, answering_stopped, serves_part, serves_stopped}
 use Rattle.adapter_server.proofs.server.serve_lines.Goals as goal
 
 pub loop-count-init : goal.loop-count-init
@@ -22,9 +24,10 @@ loop-count-preserved g c =
     record {
       room = c.in_ok-next.ensures.room;
       so_far = serves_next c.in_ok-next.next (left c.args.input.now) (left c.loop-count.input) (left c.next_line.new.reader)
-          c.args.server.now c.loop-count.server c.answer_and_send.new.server c.next_line.new.line.items (contents c.args.output.now)
-          (contents c.loop-count.output) (contents c.answer_and_send.new.output) c.loop-count.invariant.so_far
-          c.in_ok-next.ensures.next (rw c.as_slice.ensures.value at c.in_ok-answer_and_send.ensures);
+          c.args.server.now c.loop-count.server c.answer_next.new.self c.next_line.new.line.items (contents c.args.output.now)
+          (contents c.loop-count.output) (contents c.send.new.out) c.loop-count.invariant.so_far c.in_ok-next.ensures.next
+          (tells_sent (contents c.loop-count.output) (contents c.answer_next.new.out) (contents c.send.new.out) _
+          (rw c.as_slice.ensures.value at c.in_ok-answer_next.ensures) c.send.ensures);
     }
 
 pub returns-in-End-clause-ok : goal.returns-in-End-clause-ok
@@ -79,18 +82,36 @@ returns-clause-begun g c =
     c.loop-count.server (g.W.Write.contents c.args.output.now) (g.W.Write.contents c.loop-count.output)
     c.loop-count.invariant.so_far
 
-pub returns-in_err-answer_and_send : goal.returns-in_err-answer_and_send
-returns-in_err-answer_and_send g c =
+pub returns-in_err-answer_next : goal.returns-in_err-answer_next
+returns-in_err-answer_next g c =
     let left = g.R.Read.remaining in
     let contents = g.W.Write.contents in
-    let result = c.from_residual-in_err-answer_and_send.result in
-    let stopped = answering_stopped result c.in_err-answer_and_send.field-0.0 _ _ c.from_residual-in_err-answer_and_send.ensures.1 in
+    let result = c.from_residual-in_err-answer_next.result in
+    let stopped = answering_stopped result c.in_err-answer_next.field-0.0 _ _ c.from_residual-in_err-answer_next.ensures.1 in
     record {
       ok = stopped.0;
       read = stopped.1;
       begun = whatever_err result _
           (serves_part c.in_ok-next.next (left c.args.input.now) (left c.loop-count.input) (left c.next_line.new.reader)
           c.args.server.now c.loop-count.server c.next_line.new.line.items (contents c.args.output.now) (contents c.loop-count.output)
-          (contents c.answer_and_send.new.output) c.loop-count.invariant.so_far c.in_ok-next.ensures.next c.in_default.not-End
-          (rw c.as_slice.ensures.value at c.in_err-answer_and_send.ensures));
+          (contents c.answer_next.new.out) c.loop-count.invariant.so_far c.in_ok-next.ensures.next c.in_default.not-End
+          (rw c.as_slice.ensures.value at c.in_err-answer_next.ensures));
+    }
+
+pub returns-in_err-send : goal.returns-in_err-send
+returns-in_err-send g c =
+    let left = g.R.Read.remaining in
+    let contents = g.W.Write.contents in
+    let result = c.from_residual-in_err-send.result in
+    let stopped = answering_stopped result c.in_err-send.field-0.0 _ _ c.from_residual-in_err-send.ensures.1 in
+    record {
+      ok = stopped.0;
+      read = stopped.1;
+      begun = whatever_err result _
+          (serves_part c.in_ok-next.next (left c.args.input.now) (left c.loop-count.input) (left c.next_line.new.reader)
+          c.args.server.now c.loop-count.server c.next_line.new.line.items (contents c.args.output.now) (contents c.loop-count.output)
+          (contents c.send.new.out) c.loop-count.invariant.so_far c.in_ok-next.ensures.next c.in_default.not-End
+          (answer_sent (AnswersNext c.in_ok-next.next c.next_line.new.line.items c.loop-count.server) c.answer_next.new.self
+          (contents c.loop-count.output) (contents c.answer_next.new.out) (contents c.send.new.out)
+          (rw c.as_slice.ensures.value at c.in_ok-answer_next.ensures) c.send.ensures));
     }

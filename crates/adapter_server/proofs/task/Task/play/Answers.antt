@@ -1,10 +1,21 @@
 use Rattle.std.proofs.Common.{◌≡◌, ◌++◌, ◌∷◌, [], List, ap, refl, subst}
-use Rattle.std.specs.Prelude.{ℕ}
+use Rattle.std.specs.Borrow.{Bor}
+use Rattle.std.specs.Prelude.{Err, Ok, OnOk, Result, ℕ}
+use Rattle.std.specs.Result.{result_and}
+use Rattle.played_adapter.specs.declared.player.PlayedAdapter.{PlayedAdapter}
 use Rattle.server_output.specs.Texts.{number_line, ok_line, word_line}
-use Rattle.adapter_server.specs.Tasks.{ReadsFrom}
+use Rattle.server_output.specs.declared.answers.Answer.TheVariants.{Done}
+use Rattle.adapter_server.specs.Tasks.{PlaysTo, ReadsFrom}
 use Rattle.adapter_server.specs.declared.session.AccessPlace.TheVariants.{Memory, Register}
+use Rattle.adapter_server.specs.declared.task.Task.TheVariants as tasks
 use Rattle.played_adapter.proofs.Telling.{tells_so}
 use Rattle.adapter_server.proofs.task.Task.play.Goals as goal
+
+offers : {E : Type 0} (pushed : Result (Unit {0}) E) (frame : Bor (List ℕ)) (wanted : ℕ) (a : PlayedAdapter) (offered : List (List ℕ))
+    → OnOk pushed (offered ≡ a.offered ++ frame.now ∷ [])
+    → PlaysTo (tasks.Offer frame) (result_and pushed (Ok Done)) wanted a (record a { offered = offered }) []
+offers (Ok value) frame wanted a offered is = (refl, ap (λ (o : List (List ℕ)). record a { offered = o }) is, refl)
+offers (Err error) frame wanted a offered is = (ok_line, record a { offered = a.offered ++ frame.now ∷ [] }, (refl, refl, refl))
 
 pub read_from-requires : goal.read_from-requires
 read_from-requires g c = (rw c.in-Read.is at c.requires).1
@@ -65,21 +76,11 @@ pub returns-in-Settle-clause-plays : goal.returns-in-Settle-clause-plays
 returns-in-Settle-clause-plays g c =
     rw c.in-Settle.is (tells_so g.O.Observer.heard _ _ _ _ (λ told plays. (c.serve_settle.result, refl, plays)) c.serve_settle.ensures)
 
-pub returns-in-Ok-clause-plays : goal.returns-in-Ok-clause-plays
-returns-in-Ok-clause-plays g c =
-    let a = c.args.device.now in
-    rw c.in-Offer.is (record {
+pub returns-in-Offer-clause-plays : goal.returns-in-Offer-clause-plays
+returns-in-Offer-clause-plays g c =
+    rw (c.in-Offer.is, c.and.ensures) (record {
       told = [];
-      holds = (refl, ap (λ (offered : List (List ℕ)). record a { offered = offered }) c.in-Ok.ensures.ok, refl);
-      hears = g.met.O.Observer.composes.stays c.args.observer.now;
-    })
-
-pub returns-in-Err-clause-plays : goal.returns-in-Err-clause-plays
-returns-in-Err-clause-plays g c =
-    let a = c.args.device.now in
-    rw c.in-Offer.is (record {
-      told = [];
-      holds = (ok_line, record a { offered = a.offered ++ c.in-Offer.frame.now ∷ [] }, (refl, refl, refl));
+      holds = offers c.push.result c.in-Offer.frame c.args.wanted c.args.device.now c.push.new.self c.push.ensures.ok;
       hears = g.met.O.Observer.composes.stays c.args.observer.now;
     })
 
