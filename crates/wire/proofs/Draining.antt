@@ -3,7 +3,7 @@ use Rattle.std.proofs.Common.{◌≡◌, ◌≤◌, ◌<◌, ◌^◌, ◌++◌, 
 use Rattle.std.proofs.Common.{length, replicate, slice_set, refl, sym, ap, subst, ◌∙◌, arith}
 use Rattle.std.proofs.lemmas.Bool.{cases_lt}
 use Rattle.std.proofs.lemmas.List.{append-nil, length-set}
-use Rattle.std.proofs.lemmas.Option.{slice_get_past}
+use Rattle.std.proofs.lemmas.Option.{slice_get_past, slice_get_within}
 use Rattle.circular_buffer.proofs.Places.{slice_get-set_other}
 use Rattle.adapter.specs.World.{World}
 use Rattle.packet_socket.specs.HostState.{HostState}
@@ -140,3 +140,7 @@ absent-drained old host before stands past =
           (subst (λ (w : HostState). MeetsEquations k [] old.stations old.stations was w) (sym same) (delivers-none k old.stations was));
       stands = stands;
     }
+
+-- no host has a number at or above the number of hosts
+pub no-host : {A : Type 0} (n : NetworkState) (k : ℕ) (state : HostState) → length n.hosts ≤ k → IsHost n k state → A
+no-host n k state past is = absurd (let below = slice_get_within n.hosts k state is in omega (arith, below, past))

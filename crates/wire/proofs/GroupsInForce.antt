@@ -1,6 +1,6 @@
 -- The fates of frames in a call, by the groups that its host has joined at each point.
 use Rattle.std.proofs.Common.{◌≡◌, ◌==◌, ◌<◌, ◌+◌, ◌*◌, ◌++◌, ◌∷◌, [], ℕ, Bool, true, List, map, refl, sym, ap, subst, ◌∙◌}
-use Rattle.std.proofs.Common.{append_assoc, arith, if◌then◌else◌, inl, inr, rules, ⊎_elim}
+use Rattle.std.proofs.Common.{append_assoc, arith, if◌then◌else◌, inl, inr, ⊎_elim}
 use Rattle.std.specs.List.{All}
 use Rattle.std.proofs.lemmas.Bool.{eq-eqb}
 use Rattle.std.proofs.lemmas.Grind.{flat_map-append}
@@ -58,7 +58,14 @@ pub same-setup : (setup other : DriverSetup) (a b : AdapterState) → SameButGro
     → b.receive_kilobytes ≡ a.receive_kilobytes → other ≡ setup → HasSetup setup a → HasSetup other b
 same-setup setup other a b filter kilobytes same has =
     subst (λ (s : DriverSetup). HasSetup s b) (sym same) (record {
-      filter = subst (FilterHasSetup setup) (sym filter) (search rules);
+      filter = subst (FilterHasSetup setup) (sym filter) (record {
+        receive_control_is = has.filter.receive_control_is;
+        vlans = has.filter.vlans;
+        words = has.filter.words;
+        address_low = has.filter.address_low;
+        address_high = has.filter.address_high;
+        vlan_type = has.filter.vlan_type;
+      });
       allocation = kilobytes ∙ has.allocation;
     })
 

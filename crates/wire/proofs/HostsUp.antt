@@ -24,6 +24,11 @@ use Rattle.bus.proofs.Settings.{writes-append}
 use Rattle.bus.specs.declared.event.Access.{Access}
 use Rattle.bus.specs.declared.bus.Bus.{Ghosts}
 use Rattle.bring_up.specs.Configuration.{IsValidIn, configured_counts}
+use Rattle.bring_up.specs.declared.config.Config.{Config}
+use Rattle.bring_up.specs.declared.init_error.InitError.{InitError}
+use Rattle.bring_up.specs.declared.init_error.InitError.TheVariants as errors
+use Rattle.bring_up.specs.Device.{IsErrorOfLively}
+use Rattle.bring_up.specs.Link.{NeedsMoreThan}
 use Rattle.bring_up.specs.ConfiguredAdapters.{IsConfigured, names_vlans}
 use Rattle.bring_up.specs.DriverSteps.{accesses_of}
 use Rattle.bring_up.specs.SettingSteps.{RecordsNone}
@@ -32,7 +37,7 @@ use Rattle.bus.specs.Beginnings.{new_driver}
 use Rattle.bus.specs.DriverState.{DriverState, with_owners}
 use Rattle.bus.specs.ReadyDrivers.{Ready}
 use Rattle.bus.specs.Calls.{IsRefilled}
-use Rattle.driver.specs.Initialisation.{Initialises, transmit_accesses}
+use Rattle.driver.specs.Initialisation.{Initialises, IsErrorOfInit, transmit_accesses}
 use Rattle.bring_up.specs.Groups.{AreNamedOnce}
 use Rattle.packet_socket.specs.HostCalls.{HostReady}
 use Rattle.packet_socket.specs.HostState.{HostState, new_host}
@@ -42,7 +47,7 @@ use Rattle.bus.specs.declared.lively_bus.LivelyBus.{LivelyBus}
 use Rattle.stations.specs.Stations.{StationState}
 use Rattle.host_calls.specs.CountedHosts.{CanAnswer}
 use Rattle.network_plan.specs.declared.plan.HostPlan.{HostPlan}
-use Rattle.wire.specs.HostsUp.{AreOfPhy, ComesUp, HostHasNoFrames}
+use Rattle.wire.specs.HostsUp.{AreOfPhy, ComesUp, HostHasNoFrames, IsReason, most_link_ticks}
 use Rattle.host_calls.proofs.AdaptersStay.{adapter-ticked}
 use Rattle.wire.proofs.ArrivalsAlone.{alone-stays}
 use Rattle.wire.proofs.CausesOfPhy.{lives-of_phy, no-interrupt, none-told}
@@ -63,6 +68,23 @@ lively = record {
 -- a station on a wire, at whose end no frame waits
 abbrev pub station_on : (wire : ℕ) → World → StationState
 station_on wire world = record { world = world; wire = wire; backlog = [] }
+
+-- the memory of a new machine has room for the layout of a valid configuration
+pub valid-in : (config : Config) (most size : ℕ) → IsValidIn config most → size ≡ size_of (configured_counts config)
+    → IsValidIn config size
+valid-in config most size had is = record { counts = had.counts; numbers = had.numbers; room = omega (arith, is) }
+
+-- the reason of an error of an initialization over a lively bus
+pub reason-of : (plan : HostPlan) (world : World) (accesses : ℕ) (error : InitError) → world.adapter ≡ new_adapter plan.image plan.link
+    → error ≢ errors.Config → IsErrorOfInit error world.adapter.image accesses → IsErrorOfLively error world → IsReason plan error
+reason-of plan world accesses errors.Memory new valid why known = tt
+reason-of plan world accesses errors.EepromTimeout new valid why known = absurd known
+reason-of plan world accesses errors.Checksum new valid why known =
+    subst (λ (adapter : AdapterState). ¬ (HasRightSum adapter.image)) new why
+reason-of plan world accesses errors.PhyTimeout new valid why known = absurd known
+reason-of plan world accesses errors.NoLink new valid why known =
+    subst (λ (adapter : AdapterState). HasRightSum adapter.image × NeedsMoreThan most_link_ticks adapter.phy.link) new known
+reason-of plan world accesses errors.Config new valid why known = absurd (valid refl)
 
 valid : (ring : Ring) (count tail : ℕ) → count_of ring ≡ count → ring.head < count → ring.tail ≡ tail → tail < count → HasValidIndices ring
 valid ring count tail slots head is below = record { head = omega (arith, slots, head); tail = omega (arith, slots, is, below) }

@@ -1,6 +1,6 @@
 -- `Tells` for the happenings of each kind of event.
 use Rattle.std.proofs.Common.{◌≡◌, ◌==◌, ◌&&◌, ◌++◌, ◌∷◌, [], ℕ, Bool, true, false, List, Option, if◌then◌else◌, map}
-use Rattle.std.proofs.Common.{refl, sym, ap, subst, ◌∙◌, arith, rules}
+use Rattle.std.proofs.Common.{refl, sym, ap, subst, ◌∙◌, arith}
 use Rattle.std.specs.Prelude.{Err, Ok, Result}
 use Rattle.std.proofs.lemmas.Bool.Decides.{Decides-eqb, Decides-like, same_from_decides}
 use Rattle.std.proofs.lemmas.List.{append-nil}
@@ -260,12 +260,46 @@ tells-group k host middle ticks outcomes steps wires none said =
       given = λ s. around-list (given_in_one k s) middle ticks outcomes (none.given s) ∙ ap (given k s) said ∙ alone.given s;
     }
 
+-- no happening adds nothing to any list
+none-adds_none : (k : ℕ) (wires : ℕ → Option ℕ) → IsOfGroups k wires []
+none-adds_none k wires = record {
+  put = refl;
+  reached = refl;
+  toward = refl;
+  stored = refl;
+  accepted = refl;
+  missed = refl;
+  sending = refl;
+  holding = refl;
+  given = λ socket. refl;
+}
+
 pub joined-adds_none : (k host : ℕ) (group : List ℕ) (answer : FrameAnswer) (wires : ℕ → Option ℕ)
     → IsOfGroups k wires (joined_of host group answer)
-joined-adds_none k host group (Joined (Ok u)) wires = search rules
-joined-adds_none k host group _ wires = search rules
+joined-adds_none k host group (Joined (Ok u)) wires = record {
+  put = refl;
+  reached = refl;
+  toward = refl;
+  stored = refl;
+  accepted = refl;
+  missed = refl;
+  sending = refl;
+  holding = refl;
+  given = λ socket. refl;
+}
+joined-adds_none k host group _ wires = none-adds_none k wires
 
 pub left-adds_none : (k host : ℕ) (group : List ℕ) (answer : FrameAnswer) (wires : ℕ → Option ℕ)
     → IsOfGroups k wires (left_by_answer host group answer)
-left-adds_none k host group (Left (Ok u)) wires = search rules
-left-adds_none k host group _ wires = search rules
+left-adds_none k host group (Left (Ok u)) wires = record {
+  put = refl;
+  reached = refl;
+  toward = refl;
+  stored = refl;
+  accepted = refl;
+  missed = refl;
+  sending = refl;
+  holding = refl;
+  given = λ socket. refl;
+}
+left-adds_none k host group _ wires = none-adds_none k wires

@@ -34,32 +34,13 @@ pub fn bring_up_host(alloc: Global, plan: &HostPlan) -> Result<(Host, Machine), 
     ensures why { IfErr result (IsReason plan.now) }
 {
     let mut machine = machine_of(alloc, plan)?;
-    let host = host_over(alloc, plan, &mut machine)?;
-    Ok((host, machine))
-}
-
-/// Initializes the adapter of a new machine by a plan, and returns the host. Before each access of the initialization,
-/// the EEPROM and the PHY take a step, and no frame arrives. The machine must be one that [`machine_of`] returned for
-/// this plan. After an error, the machine may be in any state.
-///
-/// # Errors
-///
-/// Those of [`bring_up_host`].
-fn host_over(alloc: Global, plan: &HostPlan, machine: &mut Machine) -> Result<Host, InitError>
-    requires config { HasConfig plan.now }
-    requires adapter { machine.old.world.adapter ≡ new_adapter plan.now.image plan.now.link }
-    requires memory { length machine.old.world.memory ≡ size_of (configured_counts plan.now.config) }
-    ensures comes_up { IfOk result (λ host. (wire : ℕ)
-        → ComesUp plan.now host (record { world = machine.new.world; wire = wire; backlog = [] })) }
-    ensures why { IfErr result (IsReason plan.now) }
-{
     let table = sockets_of(plan.sockets.as_slice());
     let mut bus = LivelyBus {
-        machine,
+        machine: &mut machine,
         accesses: 0,
     };
     let host = Host::new(alloc, &mut bus, &plan.config, table)?;
-    Ok(host)
+    Ok((host, machine))
 }
 
 /// Returns a machine: a new adapter with the plan's EEPROM and link, and a memory with the size of the plan's layout.
@@ -75,8 +56,9 @@ fn machine_of(alloc: Global, plan: &HostPlan) -> Result<Machine, InitError>
         (λ machine. length machine.world.memory ≡ size_of (configured_counts plan.now.config)) }
     ensures error { IfErr result (λ error. error ≡ InitError.Memory) }
 {
-    // `u64::MAX`: no memory limits the layout, because the memory is made with the layout's size.
-    let layout = plan.config.layout(u64::MAX)?;
+    // `u64::MAX`: no memory limits the layout, because the memory is made with the layout's size. `HasConfig` states
+    // that the configuration has a layout.
+    let layout = plan.config.layout(u64::MAX).unwrap();
     let memory = HostMemory::new(alloc, layout.size())?;
     let adapter = Adapter::new(alloc, &plan.image, plan.link)?;
     Ok(Machine::new(adapter, memory))

@@ -1,20 +1,16 @@
 // Initialization of all hosts of a plan.
 
-ghost use Rattle.std.specs.Prelude.{◌≡◌, ◌≢◌, ◌<◌, ℕ, [], IfErr, IfOk, Some, length, position, slice_get};
-ghost use Rattle.std.specs.Prelude.{string_eq};
+ghost use Rattle.std.specs.Prelude.{◌≡◌, ◌≢◌, ◌<◌, ◌+◌, IfErr, IfOk, OnOk, length};
 ghost use Rattle.bring_up.specs.declared.init_error.InitError.TheVariants as InitError;
 ghost use Rattle.network_plan.specs.Plans.{HasConfigs};
-ghost use Rattle.network_plan.specs.declared.plan.HostPlan.{HostPlan};
 ghost use Rattle.network_plan.specs.declared.plan_error.PlanError.TheVariants as PlanError;
-ghost use Rattle.wire.specs.HostsUp.{AreUp, CanComeUp, ComesUp, IsRefusal, ShareWires};
+ghost use Rattle.wire.specs.HostsUp.{AreUp, IsRefusal, ShareWires};
 ghost use Rattle.wire.specs.HostsUp as up;
 
 use crate::host::bring_up_host;
 use bring_up::InitError;
-use bus::Machine;
 use host_calls::Network;
 use network_plan::{HostPlan, Plan, PlanError};
-use packet_socket::Host;
 use std::alloc::Global;
 
 /// Initializes all hosts of a plan, in order, each with its own adapter and memory. Hosts whose plans name the same
@@ -36,37 +32,41 @@ pub fn bring_up(alloc: Global, plan: &Plan) -> Result<Network, PlanError>
     let plans = plan.hosts.as_slice();
     let mut network = Network::new(alloc);
     for number in 0..plans.len() {
-        let (host, machine) = bring_up_one(alloc, plans, number)?;
-        let wire = wire_number(plans, &plans[number].wire);
-        let Ok(()) = network.connect(alloc, host, machine, wire) else {
-            return Err(PlanError::Memory);
-        };
+        bring_up_one(&mut network, alloc, plans, number)?;
     }
     Ok(network)
 }
 
-/// Initializes host `number`, and returns the host with its machine. The host isn't connected to a wire yet, so `up`
-/// holds for each number of a wire. Each plan must have a valid configuration, and a link that needs at least one PHY
-/// tick or is never up (`HasConfigs`).
+/// Initializes host `number`, and connects the host to its wire. The network must contain exactly the hosts before this
+/// one (`AreUp`). Each plan must have a valid configuration, and a link that needs at least one PHY tick or is never up
+/// (`HasConfigs`).
 ///
-/// An error other than [`Memory`](PlanError::Memory) contains the host's number, as the first host that can't be
-/// initialized. So each earlier host must have a right EEPROM checksum, and a link that can be up (`CanComeUp`).
+/// # Errors
+///
+/// [`Memory`](PlanError::Memory) if memory can't be allocated. [`Init`](PlanError::Init) with the host's number, as the
+/// first host that can't be initialized, because each host before this one was initialized.
 fn bring_up_one(
+    network: &mut Network,
     alloc: Global,
     plans: &[HostPlan],
     number: usize,
-) -> Result<(Host, Machine), PlanError>
+) -> Result<(), PlanError>
     requires there { number < length plans.now }
     requires configs { HasConfigs plans.now }
-    requires earlier { CanComeUp plans.now number }
-    ensures up { (plan : HostPlan) → slice_get plans.now number ≡ Some plan → IfOk result (λ made. (wire : ℕ)
-        → ComesUp plan made.0 (record { world = made.1.world; wire = wire; backlog = [] })) }
+    requires earlier { AreUp plans.now number network.old.hosts network.old.stations }
+    ensures up { OnOk result (AreUp plans.now (number + 1) network.new.hosts network.new.stations) }
     ensures refuses { IfErr result (IsRefusal plans.now) }
 {
-    match bring_up_host(alloc, &plans[number]) {
-        Ok(made) => Ok(made),
-        Err(error) => Err(refusal(number, error)),
-    }
+    let plan = &plans[number];
+    let (host, machine) = match bring_up_host(alloc, plan) {
+        Ok(made) => made,
+        Err(error) => return Err(refusal(number, error)),
+    };
+    let wire = wire_number(plans, &plan.wire);
+    let Ok(()) = network.connect(alloc, host, machine, wire) else {
+        return Err(PlanError::Memory);
+    };
+    Ok(())
 }
 
 /// Returns the error of a plan if the initialization of host `number` failed with `error`. Only an error of the host
@@ -81,17 +81,13 @@ fn refusal(number: usize, error: InitError) -> PlanError
     }
 }
 
-/// Returns the number of the first host whose plan names this wire, if there is such a host.
-fn first_on(plans: &[HostPlan], wire: &String) -> Option<usize>
-    ensures { result ≡ position (λ plan. string_eq plan.wire wire.now) plans.now }
-{
-    plans.iter().position(|plan| plan.wire == *wire)
-}
-
 /// Returns the number of a wire: the number of the first host whose plan names the wire. Returns the number of plans
 /// if no plan names the wire.
 fn wire_number(plans: &[HostPlan], wire: &String) -> usize
     ensures { result ≡ up.wire_number plans.now wire.now }
 {
-    first_on(plans, wire).unwrap_or(plans.len())
+    plans
+        .iter()
+        .position(|plan| plan.wire == *wire)
+        .unwrap_or(plans.len())
 }

@@ -1,10 +1,11 @@
 // Networks of hosts on wires, and runs of events.
 
-use crate::collector::Collector;
+use crate::collector::{Collector, Current};
 use crate::events::{self, EventForm};
 use crate::run_observer::RunObserver;
 use host_calls::Network;
 use network_plan::{Event, Reply, Stopped};
+use stations::Outcomes;
 use std::alloc::{AllocError, Global};
 use std::marker::Model;
 
@@ -133,11 +134,15 @@ impl Lan {
         ensures stopped { IfErr result (λ stopped. (stopped.done < length events.now)
             × RunsTo self.old (take stopped.done events.now) replies.old.items replies.new.items self.new) }
     {
-        // During the run, the collector owns the list of replies.
-        let held = std::mem::replace(replies, Vec::new(alloc));
-        let mut collector = Collector::new(alloc, held);
-        let ran = self.play(events, &mut collector);
-        *replies = collector.replies;
-        ran
+        let mut current = Current {
+            outcomes: Outcomes::new(alloc),
+            frame: None,
+        };
+        let mut collector = Collector {
+            alloc,
+            replies,
+            current: &mut current,
+        };
+        self.play(events, &mut collector)
     }
 }

@@ -10,17 +10,27 @@ use Rattle.wire.specs.RunObservers.{TellsReply, ending, ticks_played}
 use Rattle.wire.proofs.Playing.{absent-played, call-told, told-of_call}
 use Rattle.wire.proofs.events.make_call.Goals as goal
 
+pub no_host-requires : goal.no_host-requires
+no_host-requires g c = record { ready = c.requires.ready; room = c.requires.room; ticks = sym (ap ticks_played c.requires.is) }
+
 pub returns-then-call-len : goal.returns-then-call-len
 returns-then-call-len g c =
     let call = call_in c.args.call.now in
     absent-played call c.args.event.now c.args.network.now c.no_host.new.network c.args.observer.now c.no_host.new.observer
     c.requires.stands (subst (λ (n : ℕ). n ≤ call.host) c.len.ensures c.if-call-len.true) c.no_host.ensures.hosts c.no_host.ensures.told
 
-pub call-called-requires-clause-ready : goal.call-called-requires-clause-ready
-call-called-requires-clause-ready g c =
+pub call-called-requires : goal.call-called-requires
+call-called-requires g c =
     let k = c.args.call.now.host in
     let below = subst (λ (n : ℕ). k < n) c.len.ensures c.if-call-len.false in
-    (c.requires.stands.each k (nth_host c.args.network.now k) (host-there c.args.network.now k below)).ready
+    record {
+      there = below;
+      ready = (c.requires.stands.each k (nth_host c.args.network.now k) (host-there c.args.network.now k below)).ready;
+      room = c.requires.room;
+    }
+
+pub ending_of-answer-requires : goal.ending_of-answer-requires
+ending_of-answer-requires g c = record { legal = c.call-called.ensures.legal }
 
 pub answer-requires-clause-room : goal.answer-requires-clause-room
 answer-requires-clause-room g c =

@@ -1,4 +1,5 @@
-use Rattle.std.proofs.Common.{ℕ, ◌<◌, ◌≤◌, ap, refl, sym, subst}
+use Rattle.std.proofs.Common.{ℕ, ◌<◌, ◌≤◌, ap, arith, refl, sym, subst}
+use Rattle.std.proofs.lemmas.Result.{IfOk-from_err}
 use Rattle.stations.specs.AtomicRuns.{steps_told}
 use Rattle.network_plan.specs.Answers.{FrameAnswer}
 use Rattle.network_plan.specs.declared.reply.Answer.TheVariants.{Reset}
@@ -7,7 +8,11 @@ use Rattle.host_calls.proofs.HostsOfNetworks.{host-there}
 use Rattle.wire.specs.RunObservers.{ticks_played}
 use Rattle.wire.specs.Runs.{ResetAnswer}
 use Rattle.wire.proofs.ResetPlays.{absent-reset, reset-told, told-of_reset}
+use Rattle.wire.proofs.Telling.{whatever-err}
 use Rattle.wire.proofs.events.make_reset.Goals as goal
+
+pub no_host-requires : goal.no_host-requires
+no_host-requires g c = record { ready = c.requires.ready; room = c.requires.room; ticks = sym (ap ticks_played c.requires.is) }
 
 pub returns-then-reset-len-clause-ok : goal.returns-then-reset-len-clause-ok
 returns-then-reset-len-clause-ok g c =
@@ -16,29 +21,50 @@ returns-then-reset-len-clause-ok g c =
     c.no_host.new.observer c.requires.stands (subst (λ (n : ℕ). n ≤ host) c.len.ensures c.if-reset-len.true) c.no_host.ensures.hosts
     c.no_host.ensures.told
 
-pub before_reset-requires-clause-ready : goal.before_reset-requires-clause-ready
-before_reset-requires-clause-ready g c =
-    let k = c.args.reset.now.host in
-    let below = subst (λ (n : ℕ). k < n) c.len.ensures c.if-reset-len.false in
-    (c.requires.stands.each k (nth_host c.args.network.now k) (host-there c.args.network.now k below)).ready
+pub returns-then-reset-len-clause-refused : goal.returns-then-reset-len-clause-refused
+returns-then-reset-len-clause-refused g c = tt
 
-pub before_reset-requires-clause-adapter : goal.before_reset-requires-clause-adapter
-before_reset-requires-clause-adapter g c =
+pub before_reset-requires : goal.before_reset-requires
+before_reset-requires g c =
     let k = c.args.reset.now.host in
     let below = subst (λ (n : ℕ). k < n) c.len.ensures c.if-reset-len.false in
-    c.requires.stands.adapters k (nth_host c.args.network.now k) (host-there c.args.network.now k below)
+    let there = host-there c.args.network.now k below in
+    record {
+      there = below;
+      ready = (c.requires.stands.each k (nth_host c.args.network.now k) there).ready;
+      adapter = c.requires.stands.adapters k (nth_host c.args.network.now k) there;
+    }
 
-pub reset-done-requires-clause-ready : goal.reset-done-requires-clause-ready
-reset-done-requires-clause-ready g c =
-    let k = c.args.reset.now.host in
-    let below = subst (λ (n : ℕ). k < n) c.len.ensures c.if-reset-len.false in
-    (c.requires.stands.each k (nth_host c.args.network.now k) (host-there c.args.network.now k below)).ready
+pub returns-in_err-found : goal.returns-in_err-found
+returns-in_err-found g c = record {
+  ok = IfOk-from_err c.from_residual.result _ c.from_residual.ensures.0;
+  refused =
+      whatever-err c.from_residual.result _
+      (subst (λ (n : ℕ). c.args.reset.now.host < n) c.len.ensures c.if-reset-len.false, refl, refl);
+}
 
-pub reset-done-requires-clause-adapter : goal.reset-done-requires-clause-adapter
-reset-done-requires-clause-adapter g c =
+pub reset-done-requires : goal.reset-done-requires
+reset-done-requires g c =
     let k = c.args.reset.now.host in
     let below = subst (λ (n : ℕ). k < n) c.len.ensures c.if-reset-len.false in
-    c.requires.stands.adapters k (nth_host c.args.network.now k) (host-there c.args.network.now k below)
+    let there = host-there c.args.network.now k below in
+    record {
+      there = below;
+      ready = (c.requires.stands.each k (nth_host c.args.network.now k) there).ready;
+      adapter = c.requires.stands.adapters k (nth_host c.args.network.now k) there;
+      ticks = c.requires.room;
+      found = c.in_ok-found.ensures.found;
+    }
+
+pub answer-requires : goal.answer-requires
+answer-requires g c =
+    let runs = c.reset-done.ensures.resets.runs in
+    record {
+      room =
+          g.met.O.RunObserver.composes_runs.keeps_room c.args.observer.now c.reset-done.new.observer c.args.event.now
+          (steps_told 0 runs.steps) runs.of_call.heard c.requires.ready;
+      fits = omega arith;
+    }
 
 pub returns-clause-ok : goal.returns-clause-ok
 returns-clause-ok g c =
@@ -61,3 +87,6 @@ returns-clause-ok g c =
     (c.answer.ensures c.args.observer.now (steps_told 0 runs.steps) runs.of_call.heard
     (told-of_reset event k ticks runs.steps old.stations new.stations runs.of_call.leads runs.of_call.played
     (sym (ap ticks_played c.requires.is))))
+
+pub returns-clause-refused : goal.returns-clause-refused
+returns-clause-refused g c = tt

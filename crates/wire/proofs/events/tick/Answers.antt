@@ -1,4 +1,4 @@
-use Rattle.std.proofs.Common.{◌∷◌, [], ap, subst, sym, ◌∙◌}
+use Rattle.std.proofs.Common.{◌∷◌, [], ap, arith, subst, sym, ◌∙◌}
 use Rattle.host_calls.specs.Networks.{NetworkState}
 use Rattle.stations.specs.ToldTicks.{tick_told}
 use Rattle.adapter.specs.Outcomes.{FrameOutcome}
@@ -10,6 +10,28 @@ use Rattle.wire.specs.RunObservers.{StatesEnding, ending, ticks_played}
 use Rattle.wire.proofs.Ticking.{event-told, go-played, not-go, tick-played}
 use Rattle.wire.proofs.events.tick.Goals.{in-Go, in_default}
 use Rattle.wire.proofs.events.tick.Goals as goal
+
+pub note-requires : goal.note-requires
+note-requires g c = record { room = c.requires.room; fits = omega arith }
+
+pub answer-requires : goal.answer-requires
+answer-requires g c =
+    let tick = c.args.tick in
+    let begin = c.args.observer.now in
+    let event = c.args.event.now in
+    let keeps = g.met.O.RunObserver.composes_runs.keeps_room begin in
+    record {
+      room = elim c.match-tick.branch [
+        | in-Go w ↦
+            subst (λ now. g.O.RunObserver.ready now event) (sym w.observer-is)
+            (keeps w.note.new.self event (tick_told tick 0 Nothing ∷ []) w.note.ensures.heard c.requires.ready)
+        | in_default w ↦
+            let plays = w.play.ensures.plays in
+            subst (λ now. g.O.RunObserver.ready now event) (sym w.observer-is)
+            (keeps w.play.new.observer event (tick_told tick 0 plays.outcome ∷ []) plays.heard c.requires.ready)
+      ];
+      fits = omega arith;
+    }
 
 pub returns-clause-told : goal.returns-clause-told
 returns-clause-told g c =

@@ -1,6 +1,6 @@
 use Rattle.std.proofs.Common.{ℕ, ◌∙◌, ◌≡◌, ◌⊎◌, ◌+◌, ◌<◌, ◌++◌, ◌∷◌, [], List, inl, inr, length, slice_get, slice_index_or, take}
 use Rattle.std.proofs.Common.{arith, sym, subst}
-use Rattle.std.proofs.lemmas.List.{take_more}
+use Rattle.std.proofs.lemmas.List.{take_all, take_more}
 use Rattle.std.proofs.lemmas.Option.{slice_get-get_or}
 use Rattle.network_plan.specs.declared.event.Event.{Event}
 use Rattle.wire.specs.Runs.{IsResetOf, RunTold, StopsAt}
@@ -45,6 +45,9 @@ loop-done-preserved g c =
     (told-more runs before _ c.args.self.now c.loop-done.self c.event.new.self c.args.observer.now c.make_room.new.self
     c.event.new.observer asked (where-ok c.event.result _ c.event.ensures.ok (sym c.is_err.ensures.value ∙ c.if-is_err.false)))
 
+pub returns-then-not-make_room-clause-ok : goal.returns-then-not-make_room-clause-ok
+returns-then-not-make_room-clause-ok g c = tt
+
 pub returns-then-not-make_room-clause-stopped : goal.returns-then-not-make_room-clause-stopped
 returns-then-not-make_room-clause-stopped g c = (
   omega arith,
@@ -55,6 +58,9 @@ returns-then-not-make_room-clause-stopped g c = (
 pub returns-then-not-make_room-clause-refused : goal.returns-then-not-make_room-clause-refused
 returns-then-not-make_room-clause-refused g c = stops-at c.args.events.now c.loop-done.done _ c.loop-done.observer c.loop-done-test.true
     c.loop-done.invariant (inl c.if-not-make_room.ensures.refused)
+
+pub returns-then-is_err-clause-ok : goal.returns-then-is_err-clause-ok
+returns-then-is_err-clause-ok g c = tt
 
 pub returns-then-is_err-clause-stopped : goal.returns-then-is_err-clause-stopped
 returns-then-is_err-clause-stopped g c =
@@ -76,3 +82,12 @@ returns-then-is_err-clause-refused g c =
     (subst (λ (network : NetworkState). RunTold g.O.RunObserver.ran (take c.loop-done.done c.args.events.now) c.args.self.now network
     c.args.observer.now c.loop-done.observer) (sym kept.1) c.loop-done.invariant)
     (inr (reset-of _ _ _ c.loop-done.invariant.runs.hosts kept.0))
+
+pub returns : goal.returns
+returns g c = record {
+  ok =
+      subst (λ (events : List Event). RunTold g.O.RunObserver.ran events c.args.self.now c.loop-done.self c.args.observer.now
+      c.loop-done.observer) (take_all c.loop-done.done c.args.events.now c.loop-done-test.false) c.loop-done.invariant;
+  stopped = tt;
+  refused = tt;
+}
