@@ -6,9 +6,9 @@ use Rattle.adapter.specs.State.{AdapterState}
 use Rattle.adapter.specs.Table.{IsInTable, row_of}
 use Rattle.adapter.specs.TableLaws.{register_at-there}
 use Rattle.adapter.specs.World.{World}
-use Rattle.adapter.specs.declared.register.Register.{Register}
-use Rattle.adapter.specs.declared.register.Register.TheVariants as registers
-use Rattle.adapter.specs.declared.register.RingRegister.{RingRegister}
+use Rattle.adapter.specs.model_types.register.Register.{Register}
+use Rattle.adapter.specs.model_types.register.Register.TheVariants as registers
+use Rattle.adapter.specs.model_types.register.RingRegister.{RingRegister}
 use Rattle.access_names.specs.Rings.{register_of, registers_of_ring}
 use Rattle.access_names.specs.declared.engine_fault.Engine.{Engine}
 use Rattle.access_names.specs.declared.engine_fault.Engine.TheVariants.{Transmit, Receive}

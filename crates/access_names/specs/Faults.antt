@@ -2,8 +2,8 @@
 -- faults. That there are faults, and the order of the reasons, are our choice.
 use Rattle.std.specs.Prelude.{◌==◌, ◌||◌, ℕ, List, Option, Some, None, if◌then◌else◌, nat_lt, not}
 use Rattle.adapter.specs.World.{World, receive_ring, transmit_ring}
-use Rattle.adapter.specs.declared.step.StepKind.{StepKind}
-use Rattle.adapter.specs.declared.step.StepKind.TheVariants.{TxTake, RxData}
+use Rattle.adapter.specs.model_types.step.StepKind.{StepKind}
+use Rattle.adapter.specs.model_types.step.StepKind.TheVariants.{TxTake, RxData}
 use Rattle.descriptors.specs.Frames.{longest_frame}
 use Rattle.descriptors.specs.Ring.{address_of}
 use Rattle.descriptors.specs.TxFields.{command_bits, tx_dext, tx_eop}

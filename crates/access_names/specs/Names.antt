@@ -3,11 +3,11 @@ use Rattle.std.specs.Prelude.{◌==◌, ◌++◌, ℕ, [], Option, Some, None, c
 use Rattle.std.specs.Fmt.{decimal, digits}
 use Rattle.adapter.specs.Table.{register_at}
 use Rattle.text.specs.Words.{Text}
-use Rattle.adapter.specs.declared.register.RingRegister.{RingRegister}
-use Rattle.adapter.specs.declared.register.RingRegister.TheVariants.{BaseLow, BaseHigh, Length, Head, Tail}
-use Rattle.adapter.specs.declared.register.Register.{Register as AdapterRegister}
-use Rattle.adapter.specs.declared.register.Register.TheVariants.{Ctrl, Status, Eerd, Mdic, Vet, Icr, Ics, Ims, Imc, Rctl, Tctl}
-use Rattle.adapter.specs.declared.register.Register.TheVariants.{Pba, Receive, Transmit, Mpc, Gprc, Gptc, Rnbc, Mta, Ral, Rah, Vfta}
+use Rattle.adapter.specs.model_types.register.RingRegister.{RingRegister}
+use Rattle.adapter.specs.model_types.register.RingRegister.TheVariants.{BaseLow, BaseHigh, Length, Head, Tail}
+use Rattle.adapter.specs.model_types.register.Register.{Register as AdapterRegister}
+use Rattle.adapter.specs.model_types.register.Register.TheVariants.{Ctrl, Status, Eerd, Mdic, Vet, Icr, Ics, Ims, Imc, Rctl, Tctl}
+use Rattle.adapter.specs.model_types.register.Register.TheVariants.{Pba, Receive, Transmit, Mpc, Gprc, Gptc, Rnbc, Mta, Ral, Rah, Vfta}
 use Rattle.access_names.specs.declared.engine_fault.Engine.{Engine}
 use Rattle.access_names.specs.declared.engine_fault.Engine.TheVariants as engines
 use Rattle.access_names.specs.declared.name.TargetName.{TargetName}

@@ -3,9 +3,9 @@ use Rattle.std.specs.Prelude.{◌≡◌, ◌<◌, ◌⊎◌, ℕ, Bool, List, Is
 use Rattle.adapter.specs.Receiving.{piece_size}
 use Rattle.adapter.specs.Steps.{Answers}
 use Rattle.adapter.specs.World.{World, receive_ring, transmit_ring}
-use Rattle.adapter.specs.declared.outcome.Outcome.TheVariants.{Fault}
-use Rattle.adapter.specs.declared.step.StepKind.{StepKind}
-use Rattle.bus.specs.StepsAndArrivals.{world_after_step}
+use Rattle.adapter.specs.model_types.outcome.Outcome.TheVariants.{Fault}
+use Rattle.adapter.specs.model_types.step.StepKind.{StepKind}
+use Rattle.adapter.specs.StepsAndArrivals.{world_after_step}
 use Rattle.descriptors.specs.Frames.{longest_frame}
 use Rattle.descriptors.specs.Ring.{HasValidIndices, address_of}
 use Rattle.descriptors.specs.TxFields.{command_bits, tx_dext, tx_eop}

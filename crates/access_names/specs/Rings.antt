@@ -1,10 +1,10 @@
 -- The rings of both engines, their registers, and tests whether a ring has valid indices and whether memory contains bytes.
 use Rattle.std.specs.Prelude.{◌&&◌, ◌-◌, ℕ, Bool, List, length, nat_le, nat_lt}
 use Rattle.adapter.specs.World.{World, receive_ring, transmit_ring}
-use Rattle.adapter.specs.declared.register.Register.{Register}
-use Rattle.adapter.specs.declared.register.Register.TheVariants as registers
-use Rattle.adapter.specs.declared.register.RingRegister.{RingRegister}
-use Rattle.adapter.specs.declared.ring.RingRegisters.{RingRegisters}
+use Rattle.adapter.specs.model_types.register.Register.{Register}
+use Rattle.adapter.specs.model_types.register.Register.TheVariants as registers
+use Rattle.adapter.specs.model_types.register.RingRegister.{RingRegister}
+use Rattle.adapter.specs.model_types.ring.RingRegisters.{RingRegisters}
 use Rattle.descriptors.specs.Ring.{count_of}
 use Rattle.descriptors.specs.declared.ring.Ring.{Ring}
 use Rattle.access_names.specs.declared.engine_fault.Engine.{Engine}

@@ -12,10 +12,9 @@ ghost use Rattle.access_names.specs.Rings.{is_inside, ring_from};
 
 use crate::engine_fault::{Engine, EngineFault, Reason};
 use crate::ring_words::RingWords;
-use adapter::StepKind;
 use adapter::offsets::RCTL;
+use adapter::{Machine, StepKind};
 use bitflags::Flags;
-use bus::Machine;
 use descriptors::{LONGEST_SENDABLE, Ring, TX_DESC_BYTES, TxCommand, TxDesc};
 use registers::Rctl;
 

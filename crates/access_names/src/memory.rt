@@ -6,7 +6,7 @@ ghost use Rattle.access_names.specs.Targets.{memory_target_in, target_in_ring};
 
 use crate::target::Target;
 use crate::{Engine, RingWords};
-use bus::Machine;
+use adapter::Machine;
 use descriptors::RX_DESC_BYTES;
 
 /// The size of a descriptor of either ring, in bytes.

@@ -7,9 +7,8 @@ ghost use Rattle.access_names.specs.Rings.{has_valid_indices, register_of, regis
 ghost use Rattle.access_names.specs.Rings.{ring_from, ring_of_engine};
 
 use crate::engine_fault::Engine;
-use adapter::RingRegister;
 use adapter::offsets::{RDBAH, RDBAL, RDH, RDLEN, RDT, TDBAH, TDBAL, TDH, TDLEN, TDT};
-use bus::Machine;
+use adapter::{Machine, RingRegister};
 use descriptors::Ring;
 
 /// The values of a ring's registers. Head and tail may be invalid indices.

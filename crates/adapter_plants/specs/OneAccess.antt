@@ -2,14 +2,14 @@
 use Rattle.std.proofs.Common.{◌≡◌, ◌+◌, ◌++◌, ◌∷◌, [], List, sym, ap, subst, length, ◌∙◌}
 use Rattle.std.specs.Prelude.{map, min}
 use Rattle.adapter_plants.specs.OneTrail.{AreSameRequests, IsSameRequest, courses_one, trail_end}
-use Rattle.bus.specs.LivelyBuses.{most_accesses}
-use Rattle.bus.specs.Pasts.{Past}
-use Rattle.bus.specs.TickGroups.{played_in, waiting_after}
-use Rattle.bus.specs.Trails.{Trail, past_of}
-use Rattle.bus.specs.declared.event.Access.{Access}
-use Rattle.bus.specs.declared.event.Event.{Event}
-use Rattle.solo_bus.specs.SoloBuses.{Recounts, SoloState, is_solo_go, lively_ticks, solo_tick_of}
-use Rattle.solo_bus.specs.declared.solo_bus.SoloTick.TheVariants.{Go}
+use Rattle.adapter.specs.LivelyBuses.{most_accesses}
+use Rattle.adapter.specs.Pasts.{Past}
+use Rattle.adapter.specs.TickGroups.{played_in, waiting_after}
+use Rattle.adapter.specs.Trails.{Trail, past_of}
+use Rattle.adapter.specs.bus_types.event.Access.{Access}
+use Rattle.adapter.specs.bus_types.event.Event.{Event}
+use Rattle.adapter.specs.SoloBuses.{Recounts, SoloState, is_solo_go, lively_ticks, solo_tick_of}
+use Rattle.adapter.specs.solo_types.solo_bus.SoloTick.TheVariants.{Go}
 
 -- The two states are equal, except that all numbers of accesses from 2^64 - 1 on count as equal.
 pub record AreOneState (b c : SoloState) : Type 0 where

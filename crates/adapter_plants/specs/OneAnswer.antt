@@ -5,11 +5,11 @@ use Rattle.adapter.specs.Receiving.{DataAnswers, DoneAnswers}
 use Rattle.adapter.specs.State.{AdapterState}
 use Rattle.adapter.specs.Steps.{Answers, ticked}
 use Rattle.adapter.specs.Transmitting.{IsOldest, PutAnswers, TakeAnswers}
-use Rattle.adapter.specs.declared.outcome.Outcome.{Outcome}
+use Rattle.adapter.specs.model_types.outcome.Outcome.{Outcome}
 use Rattle.tx_engine.specs.Transmitter.{Queued}
-use Rattle.adapter.specs.declared.outcome.Outcome.TheVariants.{Done, Fault, Moved, Nothing, Part, Put, Ticked, Took, WireFull}
-use Rattle.adapter.specs.declared.step.StepKind.{StepKind}
-use Rattle.adapter.specs.declared.step.StepKind.TheVariants.{EepromTick, PhyTick, RxData, RxDone, TxPut, TxTake}
+use Rattle.adapter.specs.model_types.outcome.Outcome.TheVariants.{Done, Fault, Moved, Nothing, Part, Put, Ticked, Took, WireFull}
+use Rattle.adapter.specs.model_types.step.StepKind.{StepKind}
+use Rattle.adapter.specs.model_types.step.StepKind.TheVariants.{EepromTick, PhyTick, RxData, RxDone, TxPut, TxTake}
 
 take_one : (memory : List ℕ) (state : AdapterState) (a b : FrameOutcome)
     → TakeAnswers memory state a → TakeAnswers memory state b → a ≡ b

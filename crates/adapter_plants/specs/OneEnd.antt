@@ -5,8 +5,8 @@ use Rattle.std.specs.List.{All}
 use Rattle.std.proofs.lemmas.List.Elements.{All-head, All-tail}
 use Rattle.adapter.specs.Outcomes.{FrameOutcome}
 use Rattle.adapter_plants.specs.OneStep.{atoms_one}
-use Rattle.bus.specs.declared.event.Event.TheVariants.{Accesses, Arrives, Steps}
-use Rattle.bus.specs.TickGroups.{without_go}
+use Rattle.adapter.specs.bus_types.event.Event.TheVariants.{Accesses, Arrives, Steps}
+use Rattle.adapter.specs.TickGroups.{without_go}
 use Rattle.stations.specs.AtomicRuns.{IsTick, LeadsTo, counted_by, is_go, step_told, steps_told}
 use Rattle.stations.specs.AtomicSteps.{AtomicStep, At, Idles, IsNoAccess, Watched, after_atomic, step_outcome, tick_of}
 use Rattle.stations.specs.PlayedTicks.{PlaysTicks}

@@ -4,12 +4,12 @@ use Rattle.std.specs.List.{All}
 use Rattle.std.proofs.lemmas.List.Elements.{All-head, All-tail}
 use Rattle.adapter.specs.World.{World}
 use Rattle.adapter_plants.specs.OneTrail.{AreSameRequests, courses_one, no_accesses, trail_end}
-use Rattle.bus.specs.Trails.{IsStep, Trail, past_of}
-use Rattle.bus.specs.declared.event.Access.{Access}
-use Rattle.bus.specs.declared.event.Event.{Event}
-use Rattle.bus.specs.declared.event.Event.TheVariants.{Accesses, Arrives, Steps}
-use Rattle.solo_bus.specs.SoloBuses.{PlaysSoloTicks, SoloState}
-use Rattle.solo_bus.specs.declared.solo_bus.SoloTick.{SoloTick}
+use Rattle.adapter.specs.Trails.{IsStep, Trail, past_of}
+use Rattle.adapter.specs.bus_types.event.Access.{Access}
+use Rattle.adapter.specs.bus_types.event.Event.{Event}
+use Rattle.adapter.specs.bus_types.event.Event.TheVariants.{Accesses, Arrives, Steps}
+use Rattle.adapter.specs.SoloBuses.{PlaysSoloTicks, SoloState}
+use Rattle.adapter.specs.solo_types.solo_bus.SoloTick.{SoloTick}
 
 no_requests : (events : List Event) → All IsStep events → (past_of events).accesses ≡ []
 no_requests [] are = refl

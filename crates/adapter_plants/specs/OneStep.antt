@@ -4,13 +4,13 @@ use Rattle.std.specs.Prelude.{◌↔◌, IsTrue, slice_get}
 use Rattle.adapter.specs.Outcomes.{FrameOutcome}
 use Rattle.adapter.specs.State.{AdapterState}
 use Rattle.adapter.specs.Steps.{Answers}
-use Rattle.adapter.specs.declared.outcome.Outcome.TheVariants.{Delivered}
-use Rattle.adapter.specs.declared.step.StepKind.{StepKind}
-use Rattle.adapter.specs.declared.step.StepKind.TheVariants.{EepromTick, PhyTick, RxData, RxDone, TxPut, TxTake}
+use Rattle.adapter.specs.model_types.outcome.Outcome.TheVariants.{Delivered}
+use Rattle.adapter.specs.model_types.step.StepKind.{StepKind}
+use Rattle.adapter.specs.model_types.step.StepKind.TheVariants.{EepromTick, PhyTick, RxData, RxDone, TxPut, TxTake}
 use Rattle.adapter_plants.specs.OneAnswer.{answers_are_one}
 use Rattle.adapter_plants.specs.OneFate.{one_fate}
-use Rattle.bus.specs.declared.event.Event.{Event}
-use Rattle.bus.specs.declared.event.Event.TheVariants.{Accesses, Arrives, Steps}
+use Rattle.adapter.specs.bus_types.event.Event.{Event}
+use Rattle.adapter.specs.bus_types.event.Event.TheVariants.{Accesses, Arrives, Steps}
 use Rattle.rx_engine.specs.declared.arrival.Fate.{Fate}
 use Rattle.stations.specs.AtomicSteps.{AtomicStep, At, CanHappen, FindsNothing, Idles}
 use Rattle.stations.specs.AtomicSteps.{IsNoAccess, OccursAt, PlaysTick, after_atomic, step_outcome}

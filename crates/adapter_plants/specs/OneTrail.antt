@@ -3,18 +3,18 @@ use Rattle.std.proofs.Common.{◌≡◌, ◌+◌, ◌++◌, ◌∷◌, [], ℕ, 
 use Rattle.std.specs.Prelude.{⊤, map}
 use Rattle.adapter.specs.Outcomes.{FrameOutcome}
 use Rattle.adapter.specs.World.{World}
-use Rattle.adapter.specs.declared.step.StepKind.{StepKind}
-use Rattle.adapter.specs.declared.step.StepKind.TheVariants.{EepromTick, PhyTick, RxData, RxDone, TxPut, TxTake}
+use Rattle.adapter.specs.model_types.step.StepKind.{StepKind}
+use Rattle.adapter.specs.model_types.step.StepKind.TheVariants.{EepromTick, PhyTick, RxData, RxDone, TxPut, TxTake}
 use Rattle.adapter_plants.specs.OneAnswer.{answers_are_one}
 use Rattle.adapter_plants.specs.OneFate.{one_fate}
-use Rattle.bus.specs.StepsAndArrivals.{past_of_step}
-use Rattle.bus.specs.Trails.{Trail, past_of, world_after}
-use Rattle.bus.specs.declared.event.Access.{Access}
-use Rattle.bus.specs.declared.event.Access.TheVariants.{Loads, Reads, Stores, Writes}
-use Rattle.bus.specs.declared.event.Event.{Event}
-use Rattle.bus.specs.declared.event.Event.TheVariants.{Accesses, Arrives, Steps}
+use Rattle.adapter.specs.StepsAndArrivals.{past_of_step}
+use Rattle.adapter.specs.Trails.{Trail, past_of, world_after}
+use Rattle.adapter.specs.bus_types.event.Access.{Access}
+use Rattle.adapter.specs.bus_types.event.Access.TheVariants.{Loads, Reads, Stores, Writes}
+use Rattle.adapter.specs.bus_types.event.Event.{Event}
+use Rattle.adapter.specs.bus_types.event.Event.TheVariants.{Accesses, Arrives, Steps}
 use Rattle.rx_engine.specs.declared.arrival.Fate.{Fate}
-use Rattle.solo_bus.specs.SoloBuses.{AreFree, solo_tick_of}
+use Rattle.adapter.specs.SoloBuses.{AreFree, solo_tick_of}
 
 -- The two accesses are equal, except for the values that reads returned.
 abbrev pub IsSameRequest : Access → Access → Type 0

@@ -2,15 +2,38 @@
 //! is called once, before a step: it states whether the step's outcome is `Nothing`.
 
 ghost use Rattle.std.specs.Prelude.{◌≡◌, ◌≢◌, ◌↔◌, IfSome, IsNone, IsTrue};
-ghost use Rattle.adapter.specs.declared.outcome.Outcome.TheVariants.{Nothing};
+ghost use Rattle.adapter.specs.model_types.outcome.Outcome.TheVariants.{Nothing};
 
 use adapter::{Adapter, Fate, Outcome, StepKind};
+use descriptors::Frame;
 use dma_memory::HostMemory;
 use std::hash::Hasher;
 
 /// Calls [`Adapter::step`] twice.
 #[tactic(auto, using(crate::specs::OneAnswer::one_answer))]
 pub fn step_twice(
+    one: &mut Adapter,
+    other: &mut Adapter,
+    kind: StepKind,
+    memory: &mut HostMemory,
+    other_memory: &mut HostMemory,
+    wire_free: bool,
+) -> (Outcome<Frame>, Outcome<Frame>)
+    requires adapter { one.old ≡ other.old }
+    requires memory { memory.old ≡ other_memory.old }
+    ensures outcome { result.0 ≡ result.1 }
+    ensures adapter { one.new ≡ other.new }
+    ensures memory { memory.new ≡ other_memory.new }
+{
+    (
+        one.step(kind, memory, wire_free),
+        other.step(kind, other_memory, wire_free),
+    )
+}
+
+/// Calls [`Adapter::step_unframed`] twice.
+#[tactic(auto, using(crate::specs::OneAnswer::one_answer))]
+pub fn step_unframed_twice(
     one: &mut Adapter,
     other: &mut Adapter,
     kind: StepKind,
@@ -25,8 +48,8 @@ pub fn step_twice(
     ensures memory { memory.new ≡ other_memory.new }
 {
     (
-        one.step(kind, memory, wire_free),
-        other.step(kind, other_memory, wire_free),
+        one.step_unframed(kind, memory, wire_free),
+        other.step_unframed(kind, other_memory, wire_free),
     )
 }
 
@@ -93,7 +116,7 @@ pub fn has_work(
     kind: StepKind,
     memory: &mut HostMemory,
     wire_free: bool,
-) -> (bool, Outcome<()>)
+) -> (bool, Outcome<Frame>)
     ensures { IsTrue result.0 ↔ (result.1 ≢ Nothing) }
 {
     (

@@ -2,7 +2,7 @@
 
 ghost use Rattle.std.specs.Prelude.{◌≡◌};
 
-use registers::{Eerd, Image};
+use eeprom::{Eerd, Image};
 
 /// Calls [`Image::address`] twice.
 pub fn address_twice(one: &Image, other: &Image) -> ([u8; 6], [u8; 6])
@@ -12,12 +12,12 @@ pub fn address_twice(one: &Image, other: &Image) -> ([u8; 6], [u8; 6])
     (one.address(), other.address())
 }
 
-/// Calls [`registers::checksum_ok`] twice.
+/// Calls [`eeprom::checksum_ok`] twice.
 pub fn checksum_ok_twice(one: &Image, other: &Image) -> (bool, bool)
     requires { one.now ≡ other.now }
     ensures { result.0 ≡ result.1 }
 {
-    (registers::checksum_ok(one), registers::checksum_ok(other))
+    (eeprom::checksum_ok(one), registers::checksum_ok(other))
 }
 
 /// Calls [`Eerd::write`] twice.

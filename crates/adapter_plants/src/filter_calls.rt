@@ -4,7 +4,7 @@
 ghost use Rattle.std.specs.Prelude.{◌≡◌, ◌≤◌, length};
 
 use registers::GroupOffset;
-use rx_engine::Filter;
+use rx_filter::Filter;
 
 /// Calls [`Filter::passes`] twice.
 pub fn passes_twice(one: &Filter, other: &Filter, frame: &[u8]) -> (bool, bool)
@@ -15,12 +15,12 @@ pub fn passes_twice(one: &Filter, other: &Filter, frame: &[u8]) -> (bool, bool)
     (one.passes(frame), other.passes(frame))
 }
 
-/// Calls [`rx_engine::hash_of`] twice.
+/// Calls [`rx_filter::hash_of`] twice.
 pub fn hash_of_twice(mo: GroupOffset, address: &[u8; 6]) -> (u16, u16)
     ensures { result.0 ≡ result.1 }
 {
     (
-        rx_engine::hash_of(mo, address),
-        rx_engine::hash_of(mo, address),
+        rx_filter::hash_of(mo, address),
+        rx_filter::hash_of(mo, address),
     )
 }

@@ -2,7 +2,7 @@
 
 ghost use Rattle.std.specs.Prelude.{◌≡◌};
 
-use registers::{Link, Mdic, Phy, Ticked};
+use mdic_phy::{Link, Mdic, Phy, Ticked};
 
 /// Calls [`Phy::new`] twice.
 pub fn new_twice(link: Link) -> (Phy, Phy)

@@ -4,11 +4,9 @@
 ghost use Rattle.std.specs.Prelude.{◌≡◌, ◌+◌, ◌≤◌, IfOk, length};
 ghost use Rattle.adapter_plants.specs.OneAccess.{AreOneState};
 
-use adapter::{Adapter, Fate, Outcome, StepKind};
-use bus::Bus;
+use adapter::{Adapter, Bus, Fate, MOST_TICKS, Outcome, SoloBus, SoloTick, StepKind};
 use descriptors::Frame;
 use dma_memory::HostMemory;
-use solo_bus::{MOST_TICKS, SoloBus, SoloTick};
 use std::alloc::{AllocError, Global};
 
 /// Calls [`SoloBus::new`] twice. The contract doesn't state when an allocation fails.
@@ -63,14 +61,14 @@ pub fn take_put_twice(one: &mut SoloBus, other: &mut SoloBus) -> (Option<Frame>,
     (one.take_put(), other.take_put())
 }
 
-/// Calls [`SoloBus::queue`] twice.
-pub fn queue_twice(one: &mut SoloBus, other: &mut SoloBus, ticks: &[SoloTick])
+/// Calls [`SoloBus::play`] twice.
+pub fn play_twice(one: &mut SoloBus, other: &mut SoloBus, ticks: &[SoloTick])
     requires state { one.old ≡ other.old }
     requires room { length one.old.waiting + length ticks.now ≤ MOST_TICKS }
     ensures { one.new ≡ other.new }
 {
-    one.queue(ticks);
-    other.queue(ticks);
+    one.play(ticks);
+    other.play(ticks);
 }
 
 /// Calls [`SoloBus::finish`] twice.

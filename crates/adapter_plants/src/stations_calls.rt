@@ -5,12 +5,12 @@ ghost use Rattle.std.specs.Prelude.{◌≡◌, ◌<◌, ◌∷◌, [], List};
 ghost use Rattle.adapter.specs.Outcomes.{FrameOutcome};
 ghost use Rattle.adapter.specs.Registers.{answer_at};
 ghost use Rattle.adapter.specs.World.{world_after_read};
-ghost use Rattle.bus.specs.Keeping.{Keeps, view_of};
-ghost use Rattle.bus.specs.Law.{Acts};
-ghost use Rattle.bus.specs.declared.event.Access.TheVariants.{Reads};
+ghost use Rattle.adapter.specs.Keeping.{Keeps, view_of};
+ghost use Rattle.adapter.specs.Law.{Acts};
+ghost use Rattle.adapter.specs.bus_types.event.Access.TheVariants.{Reads};
 ghost use Rattle.stations.specs.ToldTicks.{TickTold, tick_told};
 
-use bus::Bus;
+use adapter::Bus;
 use stations::{LentBus, Observer, Stations, Tick};
 
 /// Calls [`Stations::play`] twice: both observers are told the same outcome.

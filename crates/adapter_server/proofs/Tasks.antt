@@ -1,7 +1,7 @@
 -- If a task is performed, its request is answered.
 use Rattle.std.proofs.Common.{◌≡◌, ◌++◌, ◌∙◌, [], ℕ, List, Ok, Option, Result, ap, length, refl, subst, sym}
 use Rattle.std.specs.Borrow.{Bor}
-use Rattle.bus.specs.declared.event.Access.TheVariants.{Loads, Reads}
+use Rattle.adapter.specs.bus_types.event.Access.TheVariants.{Loads, Reads}
 use Rattle.played_adapter.proofs.Playing.{moves_keep}
 use Rattle.played_adapter.specs.Moves.{AfterMoves}
 use Rattle.played_adapter.specs.Order.{InOrder, Joins}

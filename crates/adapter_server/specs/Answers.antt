@@ -4,15 +4,15 @@ use Rattle.std.specs.Prelude.{◌≡◌, ◌+◌, ◌^◌, ◌++◌, ◌∷◌, 
 use Rattle.std.specs.Prelude.{◌&&◌, Bool, if◌then◌else◌, length, max, nat_lt, IsUtf8}
 use Rattle.std.specs.Int.{to_le_bytes, w32}
 use Rattle.std.specs.List.{concat}
-use Rattle.adapter.specs.declared.outcome.Outcome.{Outcome}
+use Rattle.adapter.specs.model_types.outcome.Outcome.{Outcome}
 use Rattle.access_names.specs.Names.{target_text}
 use Rattle.adapter.specs.Steps.{TellsWork}
-use Rattle.adapter.specs.declared.step.StepKind.{StepKind}
-use Rattle.adapter.specs.declared.step.StepKind.TheVariants as kinds
-use Rattle.bus.specs.Digests.{digest_of}
-use Rattle.bus.specs.Machines.{is_asserted}
-use Rattle.bus.specs.declared.event.Access.{Access}
-use Rattle.bus.specs.declared.event.Access.TheVariants.{Loads, Reads}
+use Rattle.adapter.specs.model_types.step.StepKind.{StepKind}
+use Rattle.adapter.specs.model_types.step.StepKind.TheVariants as kinds
+use Rattle.adapter.specs.Digests.{digest_of}
+use Rattle.adapter.specs.Machines.{is_asserted}
+use Rattle.adapter.specs.bus_types.event.Access.{Access}
+use Rattle.adapter.specs.bus_types.event.Access.TheVariants.{Loads, Reads}
 use Rattle.access_names.specs.Rings.{ring_from, ring_of_engine}
 use Rattle.access_names.specs.declared.engine_fault.Engine.TheVariants.{Receive, Transmit}
 use Rattle.access_names.specs.declared.ring_words.RingWords.{RingWords}

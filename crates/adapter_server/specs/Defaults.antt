@@ -1,8 +1,8 @@
 -- The default options (our choice).
 use Rattle.std.specs.Prelude.{ℕ, List, [], ◌∷◌, ◌^◌}
-use Rattle.registers.specs.Image.{image_with}
-use Rattle.registers.specs.declared.phy.Link.{Link}
-use Rattle.registers.specs.declared.phy.Link.TheVariants.{After}
+use Rattle.eeprom.specs.Image.{image_with}
+use Rattle.mdic_phy.specs.declared.phy.Link.{Link}
+use Rattle.mdic_phy.specs.declared.phy.Link.TheVariants.{After}
 use Rattle.adapter_server.specs.declared.options.ServeOptions.{ServeOptions}
 
 -- the default size of memory: one mebibyte

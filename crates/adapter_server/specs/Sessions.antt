@@ -9,8 +9,8 @@ use Rattle.access_names.specs.Targets.{memory_target_in}
 use Rattle.access_names.specs.declared.target.Target.{Target}
 use Rattle.access_names.specs.declared.target.Target.TheVariants as targets
 use Rattle.adapter.specs.State.{AdapterState}
-use Rattle.bus.specs.declared.event.Access.{Access}
-use Rattle.bus.specs.declared.event.Access.TheVariants.{Stores, Writes}
+use Rattle.adapter.specs.bus_types.event.Access.{Access}
+use Rattle.adapter.specs.bus_types.event.Access.TheVariants.{Stores, Writes}
 use Rattle.registers.specs.ConfigSpace.{registers_of}
 use Rattle.played_adapter.specs.AccessTargets.{before_of, target_of}
 use Rattle.played_adapter.specs.Moves.{access_moves, due_in_agenda, met, request_moves}

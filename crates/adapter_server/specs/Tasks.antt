@@ -5,7 +5,7 @@ use Rattle.std.specs.List.{concat}
 use Rattle.std.specs.Option.{option_map_or}
 use Rattle.access_names.specs.Names.{target_text}
 use Rattle.adapter.specs.State.{AdapterState}
-use Rattle.bus.specs.declared.event.Access.TheVariants.{Reads}
+use Rattle.adapter.specs.bus_types.event.Access.TheVariants.{Reads}
 use Rattle.played_adapter.specs.Moves.{AfterMoves}
 use Rattle.played_adapter.specs.Requests.{ServesAccess, ServesChoice, ServesLoad, ServesSettle}
 use Rattle.played_adapter.specs.Told.{Told}

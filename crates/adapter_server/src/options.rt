@@ -3,7 +3,8 @@
 ghost use Rattle.std.specs.Prelude.{◌≡◌};
 ghost use Rattle.adapter_server.specs.Defaults.{default_options};
 
-use registers::{Image, Link};
+use eeprom::Image;
+use mdic_phy::Link;
 
 /// The options of a served adapter.
 #[derive(Clone, Copy)]

@@ -1,10 +1,10 @@
 -- Intervals of a driver's run, if only the joined groups and the pieces that others hold differ.
 use Rattle.std.proofs.Common.{Bool, ℕ, List}
 use Rattle.adapter.specs.World.{World}
-use Rattle.bus.specs.Pasts.{Past}
-use Rattle.bus.specs.Calls.{DriverDid, FlowsTo, GoesTo, driver_in}
-use Rattle.bus.specs.DriverState.{DriverState, HandedOut}
-use Rattle.bus.specs.ReadyDrivers.{ReadyWith}
+use Rattle.adapter.specs.Pasts.{Past}
+use Rattle.adapter.specs.Calls.{DriverDid, FlowsTo, GoesTo, driver_in}
+use Rattle.adapter.specs.DriverState.{DriverState, HandedOut}
+use Rattle.adapter.specs.ReadyDrivers.{ReadyWith}
 
 -- The driver with these joined groups, while others hold these pieces.
 abbrev pub with_others : (groups : List (List ℕ)) → List HandedOut → DriverState → DriverState

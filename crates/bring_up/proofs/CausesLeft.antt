@@ -3,11 +3,11 @@ use Rattle.std.proofs.Common.{◌≡◌, ◌++◌, ◌∷◌, [], ℕ, Bool, Lis
 use Rattle.std.specs.List.{All}
 use Rattle.std.proofs.lemmas.List.Elements.{All-append}
 use Rattle.adapter.specs.Table.{array_register_at, register_at}
-use Rattle.bus.specs.Pasts.{Past, joined}
-use Rattle.bus.specs.Settings.{Write, writes_in}
-use Rattle.bus.specs.declared.bus.Bus.{Ghosts}
-use Rattle.bus.proofs.Lists.{all-weaker}
-use Rattle.bus.proofs.Settings.{writes-append}
+use Rattle.adapter.specs.Pasts.{Past, joined}
+use Rattle.adapter.specs.Settings.{Write, writes_in}
+use Rattle.adapter.specs.bus_types.bus.Bus.{Ghosts}
+use Rattle.adapter.proofs.Lists.{all-weaker}
+use Rattle.adapter.proofs.Settings.{writes-append}
 use Rattle.bring_up.specs.FilterSetting.{SetsFilter}
 use Rattle.bring_up.specs.RingRegisters.{receive_control, receive_writes, ring_setup_writes, transmit_writes}
 use Rattle.bring_up.specs.SettingSteps.{WritesOneRegister, IsNotOfCauses, RecordsNone, RecordsNoCause, Sets}

@@ -14,27 +14,27 @@ use Rattle.adapter.specs.HostAreas.{data_of, frame_areas, offered_buffers, ring_
 use Rattle.adapter.specs.HostFrames.{named}
 use Rattle.adapter.specs.Slots.{finished, outstanding}
 use Rattle.adapter.specs.World.{World, receive_ring, transmit_ring, world_after_store}
-use Rattle.adapter.specs.declared.ring.RingRegisters.{RingRegisters}
-use Rattle.bus.specs.RegisterSetting.{with_transmit_ring}
-use Rattle.bus.specs.Keeping.{view_of}
-use Rattle.bus.specs.Law.{Acts}
-use Rattle.bus.specs.DriversStores.{IsDriversArea}
-use Rattle.bus.specs.Pasts.{nothing}
-use Rattle.bus.specs.declared.bus.Bus.{Ghosts}
-use Rattle.bus.specs.declared.event.Access.TheVariants.{Stores}
-use Rattle.bus.proofs.IdleRings.{offered-none, outstanding-none}
-use Rattle.bus.proofs.Lists.{all-head, all-none, all-tail, pairs-head, pairs-tail}
-use Rattle.bus.proofs.Rings.{outstanding-inside}
-use Rattle.bus.specs.Beginnings.{spare_slot}
-use Rattle.bus.specs.Calls.{GoesTo, Ran, at, driver_did, driver_in, only}
-use Rattle.bus.specs.DriverState.{DriverState, receive_slot, receive_tail, transmit_slot}
-use Rattle.bus.specs.ReadyDrivers.{ReadyWith}
-use Rattle.bus.proofs.DriverAccesses.{ran_by-acts, store-sets}
-use Rattle.bus.proofs.InitialStores.{spare_slot_is_stored}
-use Rattle.bus.proofs.Places.{place-below, place-sum}
-use Rattle.bus.proofs.Readiness.{stored-kept}
-use Rattle.bus.proofs.Stores.{goes-stores}
-use Rattle.bus.proofs.TransmitRing.{transmit_ring_is_written}
+use Rattle.adapter.specs.model_types.ring.RingRegisters.{RingRegisters}
+use Rattle.adapter.specs.RegisterSetting.{with_transmit_ring}
+use Rattle.adapter.specs.Keeping.{view_of}
+use Rattle.adapter.specs.Law.{Acts}
+use Rattle.adapter.specs.DriversStores.{IsDriversArea}
+use Rattle.adapter.specs.Pasts.{nothing}
+use Rattle.adapter.specs.bus_types.bus.Bus.{Ghosts}
+use Rattle.adapter.specs.bus_types.event.Access.TheVariants.{Stores}
+use Rattle.adapter.proofs.IdleRings.{offered-none, outstanding-none}
+use Rattle.adapter.proofs.Lists.{all-head, all-none, all-tail, pairs-head, pairs-tail}
+use Rattle.adapter.proofs.Rings.{outstanding-inside}
+use Rattle.adapter.specs.Beginnings.{spare_slot}
+use Rattle.adapter.specs.Calls.{GoesTo, Ran, at, driver_did, driver_in, only}
+use Rattle.adapter.specs.DriverState.{DriverState, receive_slot, receive_tail, transmit_slot}
+use Rattle.adapter.specs.ReadyDrivers.{ReadyWith}
+use Rattle.adapter.proofs.DriverAccesses.{ran_by-acts, store-sets}
+use Rattle.adapter.proofs.InitialStores.{spare_slot_is_stored}
+use Rattle.adapter.proofs.Places.{place-below, place-sum}
+use Rattle.adapter.proofs.Readiness.{stored-kept}
+use Rattle.adapter.proofs.Stores.{goes-stores}
+use Rattle.adapter.proofs.TransmitRing.{transmit_ring_is_written}
 use Rattle.bring_up.specs.ClearedDescriptors.{clears}
 
 abbrev zeros : List ℕ

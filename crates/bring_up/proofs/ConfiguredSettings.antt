@@ -1,14 +1,14 @@
 -- The settings after all writes of initialization.
 use Rattle.std.proofs.Common.{◌≡◌, ◌++◌, ◌∷◌, ◌+◌, ◌-◌, ◌*◌, ◌<◌, ◌^◌, [], ℕ, List, length, replicate, refl, sym, subst, arith}
 use Rattle.std.proofs.lemmas.List.{length-replicate}
-use Rattle.registers.specs.Phy.{new_phy}
-use Rattle.registers.specs.declared.phy.Link.{Link}
-use Rattle.rx_engine.specs.Addresses.{IsAddress, high_word, low_word}
-use Rattle.rx_engine.specs.Registers.{FilterRegisters}
+use Rattle.mdic_phy.specs.Phy.{new_phy}
+use Rattle.mdic_phy.specs.declared.phy.Link.{Link}
+use Rattle.rx_filter.specs.Addresses.{IsAddress, high_word, low_word}
+use Rattle.rx_filter.specs.Registers.{FilterRegisters}
 use Rattle.adapter.specs.Registers.{adapter_at_reset}
 use Rattle.adapter.specs.State.{AdapterState}
 use Rattle.adapter.specs.Table.{address_high_at_reset, address_low_at_reset}
-use Rattle.bus.specs.Settings.{Settings, Write, settings_after_all, settings_of}
+use Rattle.adapter.specs.Settings.{Settings, Write, settings_after_all, settings_of}
 use Rattle.bring_up.specs.Configuration.{IsValidIn}
 use Rattle.bring_up.specs.ConfiguredAdapters.{AreWords, IsConfigured, WritesConfigure, all_writes, names_vlans, writes_before_rings}
 use Rattle.bring_up.specs.FilterTables.{address_writes, table_writes}

@@ -5,17 +5,17 @@ use Rattle.std.proofs.lemmas.List.Elements.{All-append, All-cons}
 use Rattle.adapter.specs.Registers.{after_write}
 use Rattle.adapter.specs.State.{AdapterState}
 use Rattle.adapter.specs.World.{World, world_after_read, world_after_write}
-use Rattle.bus.specs.Keeping.{view_of}
-use Rattle.bus.specs.Law.{Acts}
-use Rattle.bus.specs.Pasts.{joined}
-use Rattle.bus.specs.declared.bus.Bus.{Ghosts}
-use Rattle.bus.specs.declared.event.Access.{Access}
-use Rattle.bus.specs.declared.event.Access.TheVariants.{Reads, Writes}
-use Rattle.bus.specs.AdaptersAtRest.{IsAtRest}
-use Rattle.bus.specs.Settings.{Settings, Write, settings_of, writes_in}
-use Rattle.bus.proofs.Lists.{all-none}
-use Rattle.bus.proofs.AdaptersAtRest.{accesses_keep_rest, happenings_keep_rest}
-use Rattle.bus.proofs.Settings.{happenings_leave_settings, reads-leave, writes-append}
+use Rattle.adapter.specs.Keeping.{view_of}
+use Rattle.adapter.specs.Law.{Acts}
+use Rattle.adapter.specs.Pasts.{joined}
+use Rattle.adapter.specs.bus_types.bus.Bus.{Ghosts}
+use Rattle.adapter.specs.bus_types.event.Access.{Access}
+use Rattle.adapter.specs.bus_types.event.Access.TheVariants.{Reads, Writes}
+use Rattle.adapter.specs.AdaptersAtRest.{IsAtRest}
+use Rattle.adapter.specs.Settings.{Settings, Write, settings_of, writes_in}
+use Rattle.adapter.proofs.Lists.{all-none}
+use Rattle.adapter.proofs.AdaptersAtRest.{accesses_keep_rest, happenings_keep_rest}
+use Rattle.adapter.proofs.Settings.{happenings_leave_settings, reads-leave, writes-append}
 use Rattle.bring_up.specs.SettingSteps.{WritesOneRegister, IsAside}
 use Rattle.bring_up.proofs.Steps.{IntervalsJoin}
 

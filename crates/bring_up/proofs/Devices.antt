@@ -1,11 +1,11 @@
 -- A device is found, call by call.
 use Rattle.std.proofs.Common.{◌≡◌, ◌++◌, ℕ, List, sym, ap, ◌∙◌}
 use Rattle.adapter.specs.World.{World}
-use Rattle.bus.specs.Pasts.{Past, joined}
-use Rattle.bus.specs.declared.bus.Bus.{Ghosts}
-use Rattle.bus.specs.AdaptersAtRest.{IsAtRest}
-use Rattle.bus.specs.Settings.{Settings, Write, settings_after_all, settings_of}
-use Rattle.bus.proofs.Settings.{image-stays, link-stays, settings-append}
+use Rattle.adapter.specs.Pasts.{Past, joined}
+use Rattle.adapter.specs.bus_types.bus.Bus.{Ghosts}
+use Rattle.adapter.specs.AdaptersAtRest.{IsAtRest}
+use Rattle.adapter.specs.Settings.{Settings, Write, settings_after_all, settings_of}
+use Rattle.adapter.proofs.Settings.{image-stays, link-stays, settings-append}
 use Rattle.bring_up.proofs.Steps.{IntervalsJoin}
 use Rattle.bring_up.proofs.WritesAtRest.{allocation-aside, link-aside}
 use Rattle.bring_up.proofs.CausesLeft.{allocation-causes, asks-causes, eerd-causes, joined-causes, link-causes, mdic-causes, reset-causes}

@@ -12,26 +12,26 @@ use Rattle.adapter.specs.HostAreas.{buffer_size}
 use Rattle.adapter.specs.HostFrames.{frames_held}
 use Rattle.adapter.specs.KnownRing.{KnowsRing}
 use Rattle.adapter.specs.World.{World, receive_ring, transmit_ring, world_after_write}
-use Rattle.adapter.specs.declared.register.Register.TheVariants.{Rctl, Tctl}
-use Rattle.bus.specs.RegisterSetting.{with_receive_control, with_transmit_control}
-use Rattle.bus.specs.Keeping.{view_of}
-use Rattle.bus.specs.Law.{Acts}
-use Rattle.bus.specs.Pasts.{Past, joined, nothing}
-use Rattle.bus.specs.Settings.{IsOff}
-use Rattle.bus.specs.declared.bus.Bus.{Ghosts}
-use Rattle.bus.specs.declared.event.Access.{Access}
-use Rattle.bus.specs.declared.event.Access.TheVariants.{Writes}
-use Rattle.bus.proofs.KnownRings.{known_transmit_ring_stays}
-use Rattle.bus.proofs.WaitingRings.{holds-none, offers_wait}
-use Rattle.bus.specs.Beginnings.{Enabled}
-use Rattle.bus.specs.Calls.{Goes, GoesTo, Ran, at, driver_did, driver_in, frames_ended, only}
-use Rattle.bus.specs.DriverState.{DriverState, transmit_tail}
-use Rattle.bus.specs.ReadyDrivers.{Ready, ReadyWith}
-use Rattle.bus.proofs.DriverAccesses.{SetsBy, follows-acts, follows-join, write-sets}
-use Rattle.bus.proofs.TransmitControl.{causes_are_enabled, transmitter_is_enabled}
-use Rattle.bus.proofs.ReceiveControl.{receiver_is_enabled}
-use Rattle.bus.proofs.Steps.{goes-happens}
-use Rattle.bus.proofs.Intervals.{goes_join, joined-nothing}
+use Rattle.adapter.specs.model_types.register.Register.TheVariants.{Rctl, Tctl}
+use Rattle.adapter.specs.RegisterSetting.{with_receive_control, with_transmit_control}
+use Rattle.adapter.specs.Keeping.{view_of}
+use Rattle.adapter.specs.Law.{Acts}
+use Rattle.adapter.specs.Pasts.{Past, joined, nothing}
+use Rattle.adapter.specs.Settings.{IsOff}
+use Rattle.adapter.specs.bus_types.bus.Bus.{Ghosts}
+use Rattle.adapter.specs.bus_types.event.Access.{Access}
+use Rattle.adapter.specs.bus_types.event.Access.TheVariants.{Writes}
+use Rattle.adapter.proofs.KnownRings.{known_transmit_ring_stays}
+use Rattle.adapter.proofs.WaitingRings.{holds-none, offers_wait}
+use Rattle.adapter.specs.Beginnings.{Enabled}
+use Rattle.adapter.specs.Calls.{Goes, GoesTo, Ran, at, driver_did, driver_in, frames_ended, only}
+use Rattle.adapter.specs.DriverState.{DriverState, transmit_tail}
+use Rattle.adapter.specs.ReadyDrivers.{Ready, ReadyWith}
+use Rattle.adapter.proofs.DriverAccesses.{SetsBy, follows-acts, follows-join, write-sets}
+use Rattle.adapter.proofs.TransmitControl.{causes_are_enabled, transmitter_is_enabled}
+use Rattle.adapter.proofs.ReceiveControl.{receiver_is_enabled}
+use Rattle.adapter.proofs.Steps.{goes-happens}
+use Rattle.adapter.proofs.Intervals.{goes_join, joined-nothing}
 use Rattle.bring_up.specs.DriverSteps.{MakesAccesses, EnablesCauses, LeavesDriver, LetsFramesIn}
 use Rattle.bring_up.specs.SettingSteps.{WriteActs}
 use Rattle.bring_up.specs.RingRegisters.{receive_control, receive_writes, transmit_writes}

@@ -7,23 +7,23 @@ use Rattle.dma_memory.specs.Layout.{size_of}
 use Rattle.dma_memory.specs.Owners.{HaveSameNumbers}
 use Rattle.adapter.specs.TableLaws.{register_at-there}
 use Rattle.adapter.specs.World.{World, world_after_read, world_after_write}
-use Rattle.adapter.specs.declared.register.Register.TheVariants.{Ctrl, Imc, Rctl}
-use Rattle.bus.specs.Keeping.{view_of}
-use Rattle.bus.specs.Law.{Acts}
-use Rattle.bus.specs.Link.{HasLink, IsNotOfPhy, LeavesPhy}
-use Rattle.bus.specs.Pasts.{nothing}
-use Rattle.bus.specs.Settings.{Write}
-use Rattle.bus.specs.declared.bus.Bus.{Ghosts}
-use Rattle.bus.specs.declared.event.Access.TheVariants.{Reads, Writes}
-use Rattle.bus.proofs.Links.{happenings_keep_link}
-use Rattle.bus.proofs.Lists.{all-none}
-use Rattle.bus.specs.Calls.{GoesTo, driver_did, driver_in}
-use Rattle.bus.specs.DriverState.{DriverState}
-use Rattle.bus.specs.ReadyDrivers.{ReadyWith, Stands}
-use Rattle.bus.specs.Resets.{RestsWith, reset_driver, reset_world}
-use Rattle.bus.proofs.DriverAccesses.{ran_by-acts, read-sets, write-sets}
-use Rattle.bus.proofs.Resets.{receiver_is_disabled, reset_forgets_slots}
-use Rattle.bus.proofs.Steps.{goes-happens}
+use Rattle.adapter.specs.model_types.register.Register.TheVariants.{Ctrl, Imc, Rctl}
+use Rattle.adapter.specs.Keeping.{view_of}
+use Rattle.adapter.specs.Law.{Acts}
+use Rattle.adapter.specs.Link.{HasLink, IsNotOfPhy, LeavesPhy}
+use Rattle.adapter.specs.Pasts.{nothing}
+use Rattle.adapter.specs.Settings.{Write}
+use Rattle.adapter.specs.bus_types.bus.Bus.{Ghosts}
+use Rattle.adapter.specs.bus_types.event.Access.TheVariants.{Reads, Writes}
+use Rattle.adapter.proofs.Links.{happenings_keep_link}
+use Rattle.adapter.proofs.Lists.{all-none}
+use Rattle.adapter.specs.Calls.{GoesTo, driver_did, driver_in}
+use Rattle.adapter.specs.DriverState.{DriverState}
+use Rattle.adapter.specs.ReadyDrivers.{ReadyWith, Stands}
+use Rattle.adapter.specs.Resets.{RestsWith, reset_driver, reset_world}
+use Rattle.adapter.proofs.DriverAccesses.{ran_by-acts, read-sets, write-sets}
+use Rattle.adapter.proofs.Resets.{receiver_is_disabled, reset_forgets_slots}
+use Rattle.adapter.proofs.Steps.{goes-happens}
 use Rattle.bring_up.specs.DriverSteps.{LeavesDriver, ResetsDriver}
 use Rattle.bring_up.specs.RingRegisters.{disable_writes}
 use Rattle.bring_up.specs.SettingSteps.{IsAside, Sets}

@@ -4,9 +4,9 @@ use Rattle.std.proofs.Common.{true, ℕ, List, Result, Err, IsErr, Ok, length, n
 use Rattle.std.proofs.Common.{below_more, get_or-set_other, get_or-set_same}
 use Rattle.std.proofs.lemmas.Bool.{false≢true}
 use Rattle.std.proofs.lemmas.Grind.{same_number_lists}
-use Rattle.registers.specs.Image.{word_at}
-use Rattle.bus.specs.Pasts.{nothing}
-use Rattle.bus.specs.declared.bus.Bus.{Ghosts}
+use Rattle.eeprom.specs.Image.{word_at}
+use Rattle.adapter.specs.Pasts.{nothing}
+use Rattle.adapter.specs.bus_types.bus.Bus.{Ghosts}
 use Rattle.bring_up.specs.EepromReading.{ReadsImage, ReadsWord}
 use Rattle.bring_up.specs.SettingSteps.{WritesOneRegister}
 use Rattle.bring_up.specs.declared.init_error.InitError.{InitError}

@@ -4,24 +4,24 @@ use Rattle.std.proofs.Common.{zero, suc, ℕ, List, Option, Some, Ok, Err, lengt
 use Rattle.std.specs.Fn.{iterate}
 use Rattle.std.proofs.lemmas.Nat.{or_shifted}
 use Rattle.std.proofs.lemmas.Nat.Bits.{and_pow}
-use Rattle.registers.specs.declared.eerd.ReadState.{ReadState}
-use Rattle.registers.specs.declared.eerd.ReadState.TheVariants.{Done, Pending}
-use Rattle.registers.specs.Eerd as eeprom
-use Rattle.registers.specs.Eerd.{after_tick, shown, shown_after, shown_before}
-use Rattle.registers.specs.Image.{word_at}
+use Rattle.eeprom.specs.declared.eerd.ReadState.{ReadState}
+use Rattle.eeprom.specs.declared.eerd.ReadState.TheVariants.{Done, Pending}
+use Rattle.eeprom.specs.Eerd as eeprom
+use Rattle.eeprom.specs.Eerd.{after_tick, shown, shown_after, shown_before}
+use Rattle.eeprom.specs.Image.{word_at}
 use Rattle.adapter.specs.Registers.{after_read, after_write, answer_at, answer_of, left_by_read, left_by_write}
 use Rattle.adapter.specs.State.{AdapterState}
 use Rattle.adapter.specs.Table.{register_at}
 use Rattle.adapter.specs.TableLaws.{register_at-there}
 use Rattle.adapter.specs.World.{World, world_after_read, world_after_write}
-use Rattle.adapter.specs.declared.register.Register.{Register}
-use Rattle.adapter.specs.declared.register.Register.TheVariants.{Eerd}
-use Rattle.bus.specs.Keeping.{view_of}
-use Rattle.bus.specs.Law.{Acts}
-use Rattle.bus.specs.declared.bus.Bus.{Ghosts}
-use Rattle.bus.specs.declared.event.Access.TheVariants.{Reads, Writes}
-use Rattle.bus.specs.AdaptersAtRest.{IsElsewhere}
-use Rattle.bus.specs.Settings.{settings_of}
+use Rattle.adapter.specs.model_types.register.Register.{Register}
+use Rattle.adapter.specs.model_types.register.Register.TheVariants.{Eerd}
+use Rattle.adapter.specs.Keeping.{view_of}
+use Rattle.adapter.specs.Law.{Acts}
+use Rattle.adapter.specs.bus_types.bus.Bus.{Ghosts}
+use Rattle.adapter.specs.bus_types.event.Access.TheVariants.{Reads, Writes}
+use Rattle.adapter.specs.AdaptersAtRest.{IsElsewhere}
+use Rattle.adapter.specs.Settings.{settings_of}
 use Rattle.bring_up.specs.EepromReading.{ReadsWord}
 use Rattle.bring_up.specs.declared.init_error.InitError.TheVariants.{EepromTimeout}
 use Rattle.bring_up.proofs.CountedSteps.{AsksAtLeast, asks-image, asks-more, asks-read, asks-write}

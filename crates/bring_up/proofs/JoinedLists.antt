@@ -6,9 +6,9 @@ use Rattle.std.proofs.lemmas.List.{length-append}
 use Rattle.std.proofs.lemmas.List.Elements.{All-push, Contains-append_cases, Contains-append_left, Contains-append_right, Contains-push}
 use Rattle.std.proofs.lemmas.List.Elements.{Contains-push_cases}
 use Rattle.std.proofs.lemmas.Option.{slice_get-get_or}
-use Rattle.bus.proofs.Lists.{all-without}
-use Rattle.rx_engine.specs.Addresses.{IsGroup}
-use Rattle.rx_engine.specs.GroupLists.{Removes}
+use Rattle.adapter.proofs.Lists.{all-without}
+use Rattle.rx_filter.specs.Addresses.{IsGroup}
+use Rattle.rx_filter.specs.GroupLists.{Removes}
 use Rattle.bring_up.specs.Groups.{AreJoined, AreNamedOnce, EachOnce}
 
 pub first-there : {X : Type 0} (x : X) (later : List X) → Contains (x ∷ later) x

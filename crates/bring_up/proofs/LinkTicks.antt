@@ -5,17 +5,17 @@ use Rattle.std.specs.Bool.{⊤}
 use Rattle.std.specs.Fn.{iterate}
 use Rattle.std.proofs.lemmas.Bool.{false≢true, true≢false}
 use Rattle.std.proofs.lemmas.Bool.Decides.{nat_tests}
-use Rattle.registers.specs.declared.phy.Link.{Link}
-use Rattle.registers.specs.declared.phy.Link.TheVariants.{After, Never}
-use Rattle.registers.specs.declared.phy.Negotiation.{Negotiation}
-use Rattle.registers.specs.declared.phy.Negotiation.TheVariants.{NotStarted, Running, Complete}
-use Rattle.registers.specs.Mdic.{MdicState}
-use Rattle.registers.specs.Phy.{PhyState, after_tick, counted_down, is_complete, link_is_up}
+use Rattle.mdic_phy.specs.declared.phy.Link.{Link}
+use Rattle.mdic_phy.specs.declared.phy.Link.TheVariants.{After, Never}
+use Rattle.mdic_phy.specs.declared.phy.Negotiation.{Negotiation}
+use Rattle.mdic_phy.specs.declared.phy.Negotiation.TheVariants.{NotStarted, Running, Complete}
+use Rattle.mdic_phy.specs.Mdic.{MdicState}
+use Rattle.mdic_phy.specs.Phy.{PhyState, after_tick, counted_down, is_complete, link_is_up}
 use Rattle.registers.specs.Bits.{HasBit, Meet}
 use Rattle.adapter.specs.State.{AdapterState}
 use Rattle.adapter.specs.World.{World}
-use Rattle.bus.specs.Law.{Management, management_of}
-use Rattle.bus.specs.Link.{HasLink}
+use Rattle.adapter.specs.Law.{Management, management_of}
+use Rattle.adapter.specs.Link.{HasLink}
 use Rattle.bring_up.specs.Link.{EndsCommand, IsNegotiating, NeedsMoreThan, restart_word, started, status_word}
 use Rattle.bring_up.proofs.MdicAndPhy.{shown_status, ticks-none}
 

@@ -2,12 +2,12 @@
 use Rattle.std.proofs.Common.{◌≡◌, ◌+◌, ◌≢◌, ◌≤◌, ◌||◌, ℕ, zero, suc, Bool, true, false, cond, Option, None, bit_and, inl, inr, refl, sym}
 use Rattle.std.proofs.Common.{ap, subst, ◌∙◌, arith}
 use Rattle.std.specs.Fn.{iterate}
-use Rattle.registers.specs.declared.mdic.Operation.{Operation}
-use Rattle.registers.specs.declared.phy.Negotiation.{Negotiation}
-use Rattle.registers.specs.declared.phy.Negotiation.TheVariants.{NotStarted, Running, Complete}
-use Rattle.registers.specs.Mdic.{MdicState, mdic_after_write, ended, kept_bits, operation_of, phy_ended, with_data, with_ready}
-use Rattle.registers.specs.Phy.{PhyState, after_tick, is_counting, link_is_up}
-use Rattle.bus.specs.Law.{Management, phy_ticked}
+use Rattle.mdic_phy.specs.declared.mdic.Operation.{Operation}
+use Rattle.mdic_phy.specs.declared.phy.Negotiation.{Negotiation}
+use Rattle.mdic_phy.specs.declared.phy.Negotiation.TheVariants.{NotStarted, Running, Complete}
+use Rattle.mdic_phy.specs.Mdic.{MdicState, mdic_after_write, ended, kept_bits, operation_of, phy_ended, with_data, with_ready}
+use Rattle.mdic_phy.specs.Phy.{PhyState, after_tick, is_counting, link_is_up}
+use Rattle.adapter.specs.Law.{Management, phy_ticked}
 use Rattle.bring_up.specs.Link.{EndsCommand, IsCommand, restart_word, status_word}
 
 -- Without a pending command, a tick changes only the PHY

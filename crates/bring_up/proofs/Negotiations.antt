@@ -1,8 +1,8 @@
 -- The start of negotiation and the wait for the link over an honest bus, command by command.
 use Rattle.std.proofs.Common.{◌≡◌, ◌≢◌, ◌+◌, ◌*◌, ℕ, Result, Err, Ok, bit_and, refl, subst, ◌∙◌, arith}
 use Rattle.std.proofs.lemmas.Bool.{false≢true}
-use Rattle.bus.specs.Pasts.{nothing}
-use Rattle.bus.specs.declared.bus.Bus.{Ghosts}
+use Rattle.adapter.specs.Pasts.{nothing}
+use Rattle.adapter.specs.bus_types.bus.Bus.{Ghosts}
 use Rattle.bring_up.specs.declared.init_error.InitError.{InitError}
 use Rattle.bring_up.specs.declared.init_error.InitError.TheVariants.{NoLink, PhyTimeout}
 use Rattle.bring_up.specs.Link.{AwaitsLink, Commands, IsNegotiating, NeedsMoreThan, Negotiates, restart_word, status_word}

@@ -10,13 +10,13 @@ use Rattle.adapter.specs.Registers.{after_reset, by_row, is_reset, left_by_write
 use Rattle.adapter.specs.Rings.{new_ring}
 use Rattle.adapter.specs.State.{AdapterState}
 use Rattle.adapter.specs.Table.{register_at, row_of}
-use Rattle.adapter.specs.declared.register.Register.{Register}
-use Rattle.adapter.specs.declared.register.Register.TheVariants.{Transmit}
-use Rattle.adapter.specs.declared.ring.RingRegisters.{RingRegisters}
-use Rattle.bus.specs.Settings.{Settings, Write, adapter_with, settings_after, settings_after_all, settings_of, writes_in}
-use Rattle.bus.proofs.Lists.{all-head, all-tail, append-empty}
-use Rattle.bus.proofs.Settings.{stays-off, writes-append}
-use Rattle.bus.specs.Calls.{stores_from}
+use Rattle.adapter.specs.model_types.register.Register.{Register}
+use Rattle.adapter.specs.model_types.register.Register.TheVariants.{Transmit}
+use Rattle.adapter.specs.model_types.ring.RingRegisters.{RingRegisters}
+use Rattle.adapter.specs.Settings.{Settings, Write, adapter_with, settings_after, settings_after_all, settings_of, writes_in}
+use Rattle.adapter.proofs.Lists.{all-head, all-tail, append-empty}
+use Rattle.adapter.proofs.Settings.{stays-off, writes-append}
+use Rattle.adapter.specs.Calls.{stores_from}
 use Rattle.bring_up.specs.ClearedDescriptors.{clears, clears_from}
 use Rattle.bring_up.specs.NoFrames.{IsNotTransmitRing, LeavesTransmitRing, NewTransmitRingStays, NoFramesStay}
 

@@ -9,8 +9,8 @@ use Rattle.std.proofs.lemmas.List.Elements.{Contains-append_cases, Contains-appe
 use Rattle.std.proofs.lemmas.Nat.{mod_below}
 use Rattle.std.proofs.lemmas.Option.{slice_get-get_or}
 use Rattle.registers.specs.Bits.{HasBit}
-use Rattle.rx_engine.specs.GroupLists.{Removes}
-use Rattle.rx_engine.specs.NumberTables.{HasNumbers, numbers_of_groups}
+use Rattle.rx_filter.specs.GroupLists.{Removes}
+use Rattle.rx_filter.specs.NumberTables.{HasNumbers, numbers_of_groups}
 use Rattle.bring_up.specs.Groups.{AreNamedOnce, HasNumber, IsWord, group_number_of}
 use Rattle.bring_up.proofs.JoinedLists.{first-there, only-there}
 

@@ -4,16 +4,16 @@ use Rattle.std.specs.Fn.{iterate}
 use Rattle.adapter.specs.Registers.{answer_at}
 use Rattle.adapter.specs.Table.{register_at}
 use Rattle.adapter.specs.World.{World, world_after_read, world_after_write}
-use Rattle.bus.specs.Keeping.{view_of}
-use Rattle.bus.specs.Law.{Acts, Management, management_of, phy_ticked}
-use Rattle.bus.specs.declared.bus.Bus.{Ghosts}
-use Rattle.bus.specs.declared.event.Access.TheVariants.{Reads, Writes}
+use Rattle.adapter.specs.Keeping.{view_of}
+use Rattle.adapter.specs.Law.{Acts, Management, management_of, phy_ticked}
+use Rattle.adapter.specs.bus_types.bus.Bus.{Ghosts}
+use Rattle.adapter.specs.bus_types.event.Access.TheVariants.{Reads, Writes}
 use Rattle.bring_up.specs.declared.init_error.InitError.TheVariants.{PhyTimeout}
 use Rattle.bring_up.specs.Link.{Commands, EndsCommand, IsCommand}
 use Rattle.bring_up.proofs.MdicAccesses.{AsksTimes, asks-both, asks-read, asks-write}
 use Rattle.bring_up.proofs.MdicAndPhy.{commanded, ends-of, error_bit, not-ended, ready_bit, right-then}
 use Rattle.bring_up.proofs.Steps.{IntervalsJoin}
-use Rattle.bus.proofs.LinkSettings.{link-ticks}
+use Rattle.adapter.proofs.LinkSettings.{link-ticks}
 
 abbrev pub management_behind : World → Management
 management_behind world = management_of world.adapter

@@ -21,21 +21,21 @@ use Rattle.adapter.specs.KnownRing.{KnowsRing}
 use Rattle.adapter.specs.Rings.{new_ring, ring_distance, ring_of, ring_written}
 use Rattle.adapter.specs.Slots.{finished, is_done, outstanding}
 use Rattle.adapter.specs.World.{World, receive_ring, transmit_ring}
-use Rattle.adapter.specs.declared.register.Register.TheVariants.{Receive}
-use Rattle.adapter.specs.declared.register.RingRegister.{RingRegister}
-use Rattle.adapter.specs.declared.register.RingRegister.TheVariants.{BaseHigh, BaseLow, Head, Length, Tail}
-use Rattle.adapter.specs.declared.ring.RingRegisters.{RingRegisters}
-use Rattle.bus.specs.AdaptersAtRest.{IsAtRest}
-use Rattle.bus.specs.Settings.{Write}
-use Rattle.bus.specs.declared.bus.Bus.{Ghosts}
-use Rattle.bus.proofs.IdleRings.{none-to_send, outstanding-none}
-use Rattle.bus.proofs.Lists.{all-none, pairs-none}
-use Rattle.bus.proofs.AdaptersAtRest.{happenings_keep_rest, rest_is_idle}
-use Rattle.bus.proofs.Resets.{rest_keeps_memory}
-use Rattle.bus.specs.Beginnings.{IsAtBeginning}
-use Rattle.bus.specs.DriverState.{owners}
-use Rattle.bus.specs.Resets.{reset_driver}
-use Rattle.bus.proofs.Beginnings.{drivers_begin}
+use Rattle.adapter.specs.model_types.register.Register.TheVariants.{Receive}
+use Rattle.adapter.specs.model_types.register.RingRegister.{RingRegister}
+use Rattle.adapter.specs.model_types.register.RingRegister.TheVariants.{BaseHigh, BaseLow, Head, Length, Tail}
+use Rattle.adapter.specs.model_types.ring.RingRegisters.{RingRegisters}
+use Rattle.adapter.specs.AdaptersAtRest.{IsAtRest}
+use Rattle.adapter.specs.Settings.{Write}
+use Rattle.adapter.specs.bus_types.bus.Bus.{Ghosts}
+use Rattle.adapter.proofs.IdleRings.{none-to_send, outstanding-none}
+use Rattle.adapter.proofs.Lists.{all-none, pairs-none}
+use Rattle.adapter.proofs.AdaptersAtRest.{happenings_keep_rest, rest_is_idle}
+use Rattle.adapter.proofs.Resets.{rest_keeps_memory}
+use Rattle.adapter.specs.Beginnings.{IsAtBeginning}
+use Rattle.adapter.specs.DriverState.{owners}
+use Rattle.adapter.specs.Resets.{reset_driver}
+use Rattle.adapter.proofs.Beginnings.{drivers_begin}
 use Rattle.bring_up.specs.RestingRings.{DriversBeginAgain, DriversBeginAtRest, HasNewRings, HasReceiveRing, SetsAtRest}
 use Rattle.bring_up.specs.RingRegisters.{WritesRing, ring_setup_writes}
 use Rattle.bring_up.specs.SettingSteps.{WriteActs}

@@ -4,11 +4,11 @@ use Rattle.std.proofs.lemmas.Grind.{and_high_numeral}
 use Rattle.std.proofs.lemmas.Nat.{and_mask, div-add-mod'}
 use Rattle.descriptors.specs.Ring.{count_of}
 use Rattle.dma_memory.specs.Layout.{IsRingSize}
-use Rattle.adapter.specs.declared.ring.RingRegisters.{RingRegisters}
+use Rattle.adapter.specs.model_types.ring.RingRegisters.{RingRegisters}
 use Rattle.adapter.specs.Rings.{ring_of}
 use Rattle.adapter.specs.State.{AdapterState}
 use Rattle.adapter.specs.Table.{array_register_at, register_at}
-use Rattle.bus.specs.Settings.{settings_of}
+use Rattle.adapter.specs.Settings.{settings_of}
 use Rattle.bring_up.specs.RingRegisters.{ring_setup_writes}
 use Rattle.bring_up.specs.WrittenRegisters.{write_at}
 use Rattle.bring_up.proofs.SingleSettings.{SetTo}

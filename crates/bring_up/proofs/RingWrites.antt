@@ -5,8 +5,8 @@ use Rattle.dma_memory.specs.Layout.{IsRingSize}
 use Rattle.adapter.specs.KnownRing.{KnowsRing}
 use Rattle.adapter.specs.Rings.{new_ring, ring_of, ring_written}
 use Rattle.adapter.specs.World.{World}
-use Rattle.adapter.specs.declared.register.RingRegister.TheVariants.{BaseHigh, BaseLow, Length}
-use Rattle.adapter.specs.declared.ring.RingRegisters.{RingRegisters}
+use Rattle.adapter.specs.model_types.register.RingRegister.TheVariants.{BaseHigh, BaseLow, Length}
+use Rattle.adapter.specs.model_types.ring.RingRegisters.{RingRegisters}
 
 -- the world with these registers of the receive ring
 abbrev pub with_receive_ring : RingRegisters → World → World

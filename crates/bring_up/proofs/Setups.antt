@@ -4,8 +4,8 @@ use Rattle.std.specs.Prelude.{slice_index}
 use Rattle.std.proofs.Math.Nat.{div-div-eq-div-mul, div-one, mul_comm, pow-suc}
 use Rattle.std.proofs.lemmas.Grind.{same_number_lists}
 use Rattle.registers.specs.Bits.{HasBit}
-use Rattle.rx_engine.specs.Registers.{FilterRegisters}
-use Rattle.rx_engine.specs.NumberTables.{HasNumbers}
+use Rattle.rx_filter.specs.Registers.{FilterRegisters}
+use Rattle.rx_filter.specs.NumberTables.{HasNumbers}
 use Rattle.bring_up.specs.ConfiguredAdapters.{AreWords, SetupsAgree}
 
 half-bit : (w place : ℕ) → HasBit (w / 2) place ↔ HasBit w (suc place)

@@ -1,13 +1,13 @@
 -- The settings after writes of single registers.
 use Rattle.std.proofs.Common.{◌≡◌, ◌++◌, ◌%◌, ℕ, Bool, true, false, List, refl, ap, ◌∙◌, arith}
 use Rattle.std.proofs.lemmas.Bool.Decides.{nat_tests}
-use Rattle.registers.specs.Phy.{new_phy}
+use Rattle.mdic_phy.specs.Phy.{new_phy}
 use Rattle.adapter.specs.PacketBuffer.{IsAllocation, allocation_written}
 use Rattle.adapter.specs.Registers.{adapter_at_reset}
 use Rattle.adapter.specs.State.{AdapterState}
 use Rattle.adapter.specs.Table.{array_register_at, register_at}
-use Rattle.bus.specs.Settings.{Settings, Write, settings_after_all, settings_of}
-use Rattle.bus.proofs.Settings.{settings-append}
+use Rattle.adapter.specs.Settings.{Settings, Write, settings_after_all, settings_of}
+use Rattle.adapter.proofs.Settings.{settings-append}
 use Rattle.bring_up.specs.RingRegisters.{receive_control, receive_writes, transmit_writes}
 use Rattle.bring_up.specs.WrittenRegisters.{allocation_writes, enable_link_writes, mask_writes, reset_writes}
 

@@ -7,21 +7,21 @@ use Rattle.adapter.specs.Registers.{left_by_write, write_of}
 use Rattle.adapter.specs.Table.{IsInTable, row_of}
 use Rattle.adapter.specs.TableLaws.{register_at-there}
 use Rattle.adapter.specs.World.{World, world_after_read, world_after_write}
-use Rattle.adapter.specs.declared.register.Register.{Register}
-use Rattle.bus.specs.Keeping.{view_of}
-use Rattle.bus.specs.Law.{Acts}
-use Rattle.bus.specs.Link.{HasLink, LeavesPhy}
-use Rattle.bus.specs.Pasts.{Past, joined, nothing}
-use Rattle.bus.specs.declared.bus.Bus.{Ghosts}
-use Rattle.bus.specs.declared.event.Access.{Access}
-use Rattle.bus.specs.declared.event.Access.TheVariants.{Reads, Writes}
-use Rattle.bus.specs.AdaptersAtRest.{IsAtRest, NoFrame}
-use Rattle.bus.specs.Settings.{Write, settings_after_all, settings_of, writes_in}
-use Rattle.bus.proofs.Links.{accesses_keep_link, happenings_keep_link}
-use Rattle.bus.proofs.Lists.{all-head, all-left, all-none, all-right}
-use Rattle.bus.proofs.AdaptersAtRest.{accesses_keep_rest, happenings_keep_rest}
-use Rattle.bus.proofs.Settings.{happenings_leave_settings, reads-leave, settings-append, writes-append, writes-set}
-use Rattle.bus.proofs.Resets.{rest_keeps_memory}
+use Rattle.adapter.specs.model_types.register.Register.{Register}
+use Rattle.adapter.specs.Keeping.{view_of}
+use Rattle.adapter.specs.Law.{Acts}
+use Rattle.adapter.specs.Link.{HasLink, LeavesPhy}
+use Rattle.adapter.specs.Pasts.{Past, joined, nothing}
+use Rattle.adapter.specs.bus_types.bus.Bus.{Ghosts}
+use Rattle.adapter.specs.bus_types.event.Access.{Access}
+use Rattle.adapter.specs.bus_types.event.Access.TheVariants.{Reads, Writes}
+use Rattle.adapter.specs.AdaptersAtRest.{IsAtRest, NoFrame}
+use Rattle.adapter.specs.Settings.{Write, settings_after_all, settings_of, writes_in}
+use Rattle.adapter.proofs.Links.{accesses_keep_link, happenings_keep_link}
+use Rattle.adapter.proofs.Lists.{all-head, all-left, all-none, all-right}
+use Rattle.adapter.proofs.AdaptersAtRest.{accesses_keep_rest, happenings_keep_rest}
+use Rattle.adapter.proofs.Settings.{happenings_leave_settings, reads-leave, settings-append, writes-append, writes-set}
+use Rattle.adapter.proofs.Resets.{rest_keeps_memory}
 use Rattle.bring_up.specs.DriverSteps.{accesses_of}
 use Rattle.bring_up.specs.RingRegisters.{WritesRing, ring_setup_writes}
 use Rattle.bring_up.specs.SettingSteps.{WriteActs, WritesOneRegister, IsAside, Sets, SetsOnly}

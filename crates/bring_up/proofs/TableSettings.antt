@@ -4,16 +4,16 @@ use Rattle.std.proofs.Common.{append_assoc, ap, bit_and, length, refl, replicate
 use Rattle.std.proofs.lemmas.List.{length-append}
 use Rattle.std.proofs.lemmas.Nat.{and_block, and_mask}
 use Rattle.std.proofs.Math.Seq.{set-append_seam}
-use Rattle.rx_engine.specs.Addresses.{IsAddress, high_word, low_word}
-use Rattle.rx_engine.specs.Registers.{FilterRegisters}
-use Rattle.adapter.specs.declared.register.Register.{Register}
-use Rattle.adapter.specs.declared.register.Register.TheVariants.{Mta, Vfta}
+use Rattle.rx_filter.specs.Addresses.{IsAddress, high_word, low_word}
+use Rattle.rx_filter.specs.Registers.{FilterRegisters}
+use Rattle.adapter.specs.model_types.register.Register.{Register}
+use Rattle.adapter.specs.model_types.register.Register.TheVariants.{Mta, Vfta}
 use Rattle.adapter.specs.Registers.{left_by_write}
 use Rattle.adapter.specs.State.{AdapterState}
 use Rattle.adapter.specs.Table.{array_register_at, register_at}
 use Rattle.adapter.specs.TableLaws.{register_at-mta, register_at-vfta}
-use Rattle.bus.specs.Settings.{Settings, adapter_with, settings_after_all, settings_of}
-use Rattle.bus.proofs.Lists.{all-head, all-tail}
+use Rattle.adapter.specs.Settings.{Settings, adapter_with, settings_after_all, settings_of}
+use Rattle.adapter.proofs.Lists.{all-head, all-tail}
 use Rattle.bring_up.specs.ConfiguredAdapters.{AreWords}
 use Rattle.bring_up.specs.FilterTables.{address_writes, table_writes}
 use Rattle.bring_up.proofs.SingleSettings.{SetTo}

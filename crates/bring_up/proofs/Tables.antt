@@ -5,10 +5,10 @@ use Rattle.std.proofs.Math.Seq.{take-length, take-suc}
 use Rattle.std.proofs.lemmas.List.{length-replicate, length-set}
 use Rattle.std.specs.List.{Contains}
 use Rattle.std.proofs.lemmas.List.Elements.{Contains-append_cases, Contains-append_left, Contains-push}
-use Rattle.rx_engine.specs.FilterLaws.{HasTableBit-with_number, HasTableBit-zeros}
-use Rattle.rx_engine.specs.NumberTables.{HasNumbers}
-use Rattle.rx_engine.specs.Writing.{with_number}
-use Rattle.bus.specs.Settings.{Write}
+use Rattle.rx_filter.specs.Laws.{HasTableBit-with_number, HasTableBit-zeros}
+use Rattle.rx_filter.specs.NumberTables.{HasNumbers}
+use Rattle.rx_filter.specs.Writing.{with_number}
+use Rattle.adapter.specs.Settings.{Write}
 use Rattle.bring_up.specs.FilterTables.{empty_entries, entry_writes, table_writes}
 use Rattle.bring_up.specs.WrittenRegisters.{write_at}
 

@@ -6,21 +6,21 @@ use Rattle.adapter.specs.HostAreas.{ring_area}
 use Rattle.adapter.specs.KnownRing.{KnowsRing}
 use Rattle.adapter.specs.Rings.{new_ring, ring_distance, ring_of, ring_written}
 use Rattle.adapter.specs.World.{World}
-use Rattle.adapter.specs.declared.register.Register.TheVariants.{Transmit}
-use Rattle.adapter.specs.declared.register.RingRegister.{RingRegister}
-use Rattle.adapter.specs.declared.register.RingRegister.TheVariants.{BaseHigh, BaseLow, Head, Length, Tail}
-use Rattle.adapter.specs.declared.ring.RingRegisters.{RingRegisters}
-use Rattle.bus.specs.RegisterSetting.{with_transmit_ring}
-use Rattle.bus.specs.Pasts.{nothing}
-use Rattle.bus.specs.declared.bus.Bus.{Ghosts}
-use Rattle.bus.specs.declared.event.Access.{Access}
-use Rattle.bus.specs.declared.event.Access.TheVariants.{Writes}
-use Rattle.bus.specs.Calls.{GoesTo, Ran, at, driver_did, driver_in, only}
-use Rattle.bus.specs.DriverState.{DriverState}
-use Rattle.bus.specs.ReadyDrivers.{ReadyWith}
-use Rattle.bus.proofs.DriverAccesses.{ran_by-join, write-sets}
-use Rattle.bus.proofs.Steps.{goes-happens}
-use Rattle.bus.proofs.TransmitRing.{transmit_ring_is_written}
+use Rattle.adapter.specs.model_types.register.Register.TheVariants.{Transmit}
+use Rattle.adapter.specs.model_types.register.RingRegister.{RingRegister}
+use Rattle.adapter.specs.model_types.register.RingRegister.TheVariants.{BaseHigh, BaseLow, Head, Length, Tail}
+use Rattle.adapter.specs.model_types.ring.RingRegisters.{RingRegisters}
+use Rattle.adapter.specs.RegisterSetting.{with_transmit_ring}
+use Rattle.adapter.specs.Pasts.{nothing}
+use Rattle.adapter.specs.bus_types.bus.Bus.{Ghosts}
+use Rattle.adapter.specs.bus_types.event.Access.{Access}
+use Rattle.adapter.specs.bus_types.event.Access.TheVariants.{Writes}
+use Rattle.adapter.specs.Calls.{GoesTo, Ran, at, driver_did, driver_in, only}
+use Rattle.adapter.specs.DriverState.{DriverState}
+use Rattle.adapter.specs.ReadyDrivers.{ReadyWith}
+use Rattle.adapter.proofs.DriverAccesses.{ran_by-join, write-sets}
+use Rattle.adapter.proofs.Steps.{goes-happens}
+use Rattle.adapter.proofs.TransmitRing.{transmit_ring_is_written}
 use Rattle.bring_up.specs.DriverSteps.{CanSetTransmitRing, SetsTransmitRing}
 use Rattle.bring_up.specs.RingRegisters.{WritesRing, ring_setup_writes}
 use Rattle.bring_up.specs.SettingSteps.{WriteActs}

@@ -3,23 +3,23 @@ use Rattle.std.proofs.Common.{◌≡◌, ◌<◌, ◌+◌, ◌*◌, ◌/◌, ◌
 use Rattle.std.proofs.Common.{ap, subst, ◌∙◌}
 use Rattle.std.specs.Prelude.{slice_set}
 use Rattle.std.proofs.lemmas.List.Elements.{All-set}
-use Rattle.rx_engine.specs.NumberTables.{HasNumbers, numbers_of_groups}
-use Rattle.rx_engine.specs.Registers.{FilterRegisters}
+use Rattle.rx_filter.specs.NumberTables.{HasNumbers, numbers_of_groups}
+use Rattle.rx_filter.specs.Registers.{FilterRegisters}
 use Rattle.adapter.specs.Registers.{write_of}
 use Rattle.adapter.specs.World.{World, world_after_write}
-use Rattle.adapter.specs.declared.register.Register.TheVariants.{Mta}
-use Rattle.bus.proofs.RegisterSetting.{other_writes_leave_frames}
-use Rattle.bus.specs.DriversStores.{LeavesFrames}
-use Rattle.bus.specs.Pasts.{nothing}
-use Rattle.bus.specs.declared.bus.Bus.{Ghosts}
-use Rattle.bus.specs.declared.event.Access.{Access}
-use Rattle.bus.specs.declared.event.Access.TheVariants.{Writes}
-use Rattle.bus.specs.Calls.{GoesTo, Ran, at, driver_did, driver_in, only}
-use Rattle.bus.specs.DriverState.{DriverState}
-use Rattle.bus.specs.ReadyDrivers.{ReadyWith}
-use Rattle.bus.proofs.DriverAccesses.{ran_by-stays, write-sets}
-use Rattle.bus.proofs.AlikeWorlds.{SameParts, ready-left}
-use Rattle.bus.proofs.Steps.{goes-same}
+use Rattle.adapter.specs.model_types.register.Register.TheVariants.{Mta}
+use Rattle.adapter.proofs.RegisterSetting.{other_writes_leave_frames}
+use Rattle.adapter.specs.DriversStores.{LeavesFrames}
+use Rattle.adapter.specs.Pasts.{nothing}
+use Rattle.adapter.specs.bus_types.bus.Bus.{Ghosts}
+use Rattle.adapter.specs.bus_types.event.Access.{Access}
+use Rattle.adapter.specs.bus_types.event.Access.TheVariants.{Writes}
+use Rattle.adapter.specs.Calls.{GoesTo, Ran, at, driver_did, driver_in, only}
+use Rattle.adapter.specs.DriverState.{DriverState}
+use Rattle.adapter.specs.ReadyDrivers.{ReadyWith}
+use Rattle.adapter.proofs.DriverAccesses.{ran_by-stays, write-sets}
+use Rattle.adapter.proofs.AlikeWorlds.{SameParts, ready-left}
+use Rattle.adapter.proofs.Steps.{goes-same}
 use Rattle.bring_up.specs.ConfiguredAdapters.{AreWords}
 use Rattle.bring_up.specs.SettingSteps.{WriteActs}
 use Rattle.bring_up.proofs.DriverAccesses.{ran_by-begins}

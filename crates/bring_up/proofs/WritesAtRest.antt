@@ -5,12 +5,12 @@ use Rattle.std.proofs.lemmas.List.Elements.{All-cons}
 use Rattle.adapter.specs.Table.{IsInTable, register_at, row_of}
 use Rattle.adapter.specs.TableLaws.{register_at-there}
 use Rattle.adapter.specs.World.{World, world_after_read, world_after_write}
-use Rattle.adapter.specs.declared.register.Register.{Register}
-use Rattle.adapter.specs.declared.register.Register.TheVariants.{Ctrl, Imc, Pba}
-use Rattle.bus.specs.AdaptersAtRest.{IsAtRest, IsElsewhere}
-use Rattle.bus.proofs.Lists.{all-none}
-use Rattle.bus.proofs.AdaptersAtRest.{rest_after_reset}
-use Rattle.bus.specs.Resets.{reset_world}
+use Rattle.adapter.specs.model_types.register.Register.{Register}
+use Rattle.adapter.specs.model_types.register.Register.TheVariants.{Ctrl, Imc, Pba}
+use Rattle.adapter.specs.AdaptersAtRest.{IsAtRest, IsElsewhere}
+use Rattle.adapter.proofs.Lists.{all-none}
+use Rattle.adapter.proofs.AdaptersAtRest.{rest_after_reset}
+use Rattle.adapter.specs.Resets.{reset_world}
 use Rattle.bring_up.specs.SettingSteps.{IsAside}
 use Rattle.bring_up.specs.WrittenRegisters.{allocation_writes, enable_link_writes, write_at}
 use Rattle.bring_up.proofs.Steps.{register-written}

@@ -3,15 +3,15 @@ use Rattle.std.proofs.Common.{◌≡◌, ◌++◌, ◌∷◌, ◌+◌, ◌-◌, 
 use Rattle.std.proofs.Common.{ap, ◌∙◌, sym, subst, arith}
 use Rattle.std.specs.List.{All}
 use Rattle.std.proofs.lemmas.List.Elements.{All-append, All-cons}
-use Rattle.rx_engine.specs.Addresses.{high_word, low_word}
-use Rattle.adapter.specs.declared.register.Register.{Register}
-use Rattle.adapter.specs.declared.register.Register.TheVariants.{Mta, Rah, Ral, Vfta}
+use Rattle.rx_filter.specs.Addresses.{high_word, low_word}
+use Rattle.adapter.specs.model_types.register.Register.{Register}
+use Rattle.adapter.specs.model_types.register.Register.TheVariants.{Mta, Rah, Ral, Vfta}
 use Rattle.adapter.specs.Table.{array_register_at, register_at}
 use Rattle.adapter.specs.TableLaws.{register_at-mta, register_at-rah, register_at-ral, register_at-vfta}
-use Rattle.bus.specs.Link.{IsNotOfPhy, LeavesPhy}
-use Rattle.bus.specs.AdaptersAtRest.{IsElsewhere}
-use Rattle.bus.specs.Settings.{Write}
-use Rattle.bus.proofs.Lists.{all-none}
+use Rattle.adapter.specs.Link.{IsNotOfPhy, LeavesPhy}
+use Rattle.adapter.specs.AdaptersAtRest.{IsElsewhere}
+use Rattle.adapter.specs.Settings.{Write}
+use Rattle.adapter.proofs.Lists.{all-none}
 use Rattle.bring_up.specs.ConfiguredAdapters.{LinkComesFirst, RingsComeLast, names_vlans}
 use Rattle.bring_up.specs.FilterTables.{address_writes, empty_entries, entry_writes, table_writes}
 use Rattle.bring_up.specs.RingRegisters.{receive_control, receive_writes, ring_setup_writes, transmit_writes}

@@ -1,8 +1,8 @@
 -- Stores that clear descriptors.
 use Rattle.std.specs.Prelude.{◌+◌, ◌*◌, ◌++◌, ℕ, zero, suc, List, [], ◌∷◌, replicate}
 use Rattle.dma_memory.specs.Layout.{descriptor_bytes}
-use Rattle.bus.specs.declared.event.Access.{Access}
-use Rattle.bus.specs.declared.event.Access.TheVariants.{Stores}
+use Rattle.adapter.specs.bus_types.event.Access.{Access}
+use Rattle.adapter.specs.bus_types.event.Access.TheVariants.{Stores}
 
 -- The store of 16 bytes of value 0 at an address.
 abbrev pub clears : ℕ → Access

@@ -1,8 +1,8 @@
 -- Which configurations are valid. What the manual leaves open is our choice.
 use Rattle.std.specs.Prelude.{◌≤◌, ◌<◌, ℕ, List, [], All, Option, None, Some}
 use Rattle.dma_memory.specs.Layout.{Counts, IsAllowed, size_of}
-use Rattle.rx_engine.specs.Addresses.{IsGroup}
-use Rattle.rx_engine.specs.NumberTables.{table_numbers}
+use Rattle.rx_filter.specs.Addresses.{IsGroup}
+use Rattle.rx_filter.specs.NumberTables.{table_numbers}
 use Rattle.adapter.specs.PacketBuffer.{IsAllocation}
 use Rattle.arrayvec.specs.declared.array_vec.ArrayVec.{ArrayVec}
 use Rattle.bring_up.specs.declared.config.Config.{Config}

@@ -2,20 +2,20 @@
 -- these writes, settings and setups.
 use Rattle.std.specs.Prelude.{◌≡◌, ◌<◌, ◌+◌, ◌-◌, ◌*◌, ◌++◌, ℕ, Bool, true, false, List, ◌∷◌, [], All, Option, None, Some, length}
 use Rattle.std.specs.Prelude.{replicate}
-use Rattle.adapter.specs.declared.offsets.TheConstants.{MTA, RDBAL, RDT, TDBAL, VFTA}
+use Rattle.adapter.specs.model_types.offsets.TheConstants.{MTA, RDBAL, RDT, TDBAL, VFTA}
 use Rattle.dma_memory.specs.Layout.{descriptor_bytes}
 use Rattle.arrayvec.specs.declared.array_vec.ArrayVec.{ArrayVec}
 use Rattle.registers.specs.Places.{alone, rah_av}
-use Rattle.rx_engine.specs.Addresses.{IsAddress, high_word, low_word}
-use Rattle.rx_engine.specs.NumberTables.{HasNumbers, numbers_of_groups}
-use Rattle.rx_engine.specs.Registers.{FilterRegisters}
-use Rattle.adapter.specs.declared.ring.RingRegisters.{RingRegisters}
+use Rattle.rx_filter.specs.Addresses.{IsAddress, high_word, low_word}
+use Rattle.rx_filter.specs.NumberTables.{HasNumbers, numbers_of_groups}
+use Rattle.rx_filter.specs.Registers.{FilterRegisters}
+use Rattle.adapter.specs.model_types.ring.RingRegisters.{RingRegisters}
 use Rattle.adapter.specs.Rings.{ring_of}
 use Rattle.adapter.specs.State.{AdapterState}
-use Rattle.bus.specs.DriverState.{DriverSetup}
+use Rattle.adapter.specs.DriverState.{DriverSetup}
 use Rattle.descriptors.specs.Ring.{count_of}
-use Rattle.bus.specs.Link.{LeavesPhy}
-use Rattle.bus.specs.Settings.{Settings, Write, settings_after_all}
+use Rattle.adapter.specs.Link.{LeavesPhy}
+use Rattle.adapter.specs.Settings.{Settings, Write, settings_after_all}
 use Rattle.bring_up.specs.Configuration.{IsValidIn, vlans_of}
 use Rattle.bring_up.specs.FilterTables.{address_writes, table_writes}
 use Rattle.bring_up.specs.RingRegisters.{receive_control, receive_writes, ring_setup_writes, transmit_control, transmit_writes}
@@ -24,7 +24,7 @@ use Rattle.bring_up.specs.WrittenRegisters.{allocation_writes, handled_causes, l
 use Rattle.bring_up.specs.WrittenRegisters.{register_limit, write_at}
 use Rattle.bring_up.specs.declared.config.Config.{Config}
 use Rattle.bring_up.specs.declared.config.TheConstants.{MOST_VLANS}
-use Rattle.rx_engine.specs.declared.filter.TheConstants.{RECEIVE_ADDRESSES, TABLE_WORDS, VLAN_TYPE}
+use Rattle.rx_filter.specs.declared.filter.TheConstants.{RECEIVE_ADDRESSES, TABLE_WORDS, VLAN_TYPE}
 
 -- Whether the configuration has a list of VLANs, which may be empty.
 abbrev pub names_vlans : Option (ArrayVec ℕ MOST_VLANS (Unit {0})) → Bool

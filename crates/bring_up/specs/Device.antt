@@ -1,12 +1,12 @@
 -- What a driver knows after it found a device, and after each error.
 use Rattle.std.specs.Prelude.{⊤, ◌≡◌, ◌≤◌, ◌++◌, ◌*◌, ℕ, List, Result, IfErr, IfOk, length}
-use Rattle.registers.specs.Image.{HasRightSum}
+use Rattle.eeprom.specs.Image.{HasRightSum}
 use Rattle.adapter.specs.World.{World}
-use Rattle.bus.specs.Link.{HasLink}
-use Rattle.bus.specs.Pasts.{Past}
-use Rattle.bus.specs.AdaptersAtRest.{IsAtRest}
-use Rattle.bus.specs.Settings.{settings_after_all, settings_of}
-use Rattle.bus.specs.declared.bus.Bus.{Ghosts}
+use Rattle.adapter.specs.Link.{HasLink}
+use Rattle.adapter.specs.Pasts.{Past}
+use Rattle.adapter.specs.AdaptersAtRest.{IsAtRest}
+use Rattle.adapter.specs.Settings.{settings_after_all, settings_of}
+use Rattle.adapter.specs.bus_types.bus.Bus.{Ghosts}
 use Rattle.bring_up.specs.EepromReading.{most_reads}
 use Rattle.bring_up.specs.Link.{NeedsMoreThan}
 use Rattle.bring_up.specs.SettingSteps.{RecordsNoCause}

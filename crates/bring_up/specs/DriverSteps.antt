@@ -9,19 +9,19 @@ use Rattle.adapter.specs.KnownRing.{KnowsRing}
 use Rattle.adapter.specs.Rings.{new_ring}
 use Rattle.adapter.specs.Slots.{finished}
 use Rattle.adapter.specs.World.{World, transmit_ring}
-use Rattle.adapter.specs.declared.offsets.TheConstants.{CTRL, ICR, IMC, IMS}
-use Rattle.bus.specs.AdaptersAtRest.{NoFrame}
-use Rattle.bus.specs.Link.{HasLink}
-use Rattle.bus.specs.Pasts.{Past}
-use Rattle.bus.specs.Settings.{IsOff, NoArrival, Write}
-use Rattle.bus.specs.declared.bus.Bus.{Ghosts}
-use Rattle.bus.specs.declared.event.Access.{Access}
-use Rattle.bus.specs.declared.event.Access.TheVariants.{Reads, Writes}
-use Rattle.bus.specs.Beginnings.{Enabled}
-use Rattle.bus.specs.Calls.{FollowsWrites, Goes, GoesTo, HasNoForgottenWork, Ran, at, driver_did, driver_in, frames_ended, only}
-use Rattle.bus.specs.DriverState.{DriverState, transmit_tail}
-use Rattle.bus.specs.ReadyDrivers.{Ready}
-use Rattle.bus.specs.Resets.{RestsWith, reset_driver, reset_world}
+use Rattle.adapter.specs.model_types.offsets.TheConstants.{CTRL, ICR, IMC, IMS}
+use Rattle.adapter.specs.AdaptersAtRest.{NoFrame}
+use Rattle.adapter.specs.Link.{HasLink}
+use Rattle.adapter.specs.Pasts.{Past}
+use Rattle.adapter.specs.Settings.{IsOff, NoArrival, Write}
+use Rattle.adapter.specs.bus_types.bus.Bus.{Ghosts}
+use Rattle.adapter.specs.bus_types.event.Access.{Access}
+use Rattle.adapter.specs.bus_types.event.Access.TheVariants.{Reads, Writes}
+use Rattle.adapter.specs.Beginnings.{Enabled}
+use Rattle.adapter.specs.Calls.{FollowsWrites, Goes, GoesTo, HasNoForgottenWork, Ran, at, driver_did, driver_in, frames_ended, only}
+use Rattle.adapter.specs.DriverState.{DriverState, transmit_tail}
+use Rattle.adapter.specs.ReadyDrivers.{Ready}
+use Rattle.adapter.specs.Resets.{RestsWith, reset_driver, reset_world}
 
 -- These register writes, as accesses.
 abbrev pub accesses_of : List Write → List Access

@@ -1,9 +1,9 @@
 -- Reading the EEPROM through EERD ("13.4.4 EEPROM Read Register").
 use Rattle.std.specs.Prelude.{◌≡◌, ◌≤◌, ℕ, List, Result, IfOk, OnErr, length}
-use Rattle.adapter.specs.declared.offsets.TheConstants.{EERD}
-use Rattle.registers.specs.Image.{word_at}
-use Rattle.registers.specs.declared.image.TheConstants.{WORDS}
-use Rattle.bus.specs.declared.bus.Bus.{Ghosts}
+use Rattle.adapter.specs.model_types.offsets.TheConstants.{EERD}
+use Rattle.eeprom.specs.Image.{word_at}
+use Rattle.eeprom.specs.declared.image.TheConstants.{WORDS}
+use Rattle.adapter.specs.bus_types.bus.Bus.{Ghosts}
 use Rattle.bring_up.specs.SettingSteps.{WritesOneRegister}
 use Rattle.bring_up.specs.declared.init_error.InitError.{InitError}
 

@@ -1,9 +1,9 @@
 -- The receive filter is set up.
 use Rattle.std.specs.Prelude.{◌≡◌, ◌++◌, ℕ, List}
-use Rattle.adapter.specs.declared.offsets.TheConstants.{MTA, VFTA}
-use Rattle.rx_engine.specs.Addresses.{IsAddress}
-use Rattle.rx_engine.specs.NumberTables.{HasNumbers, numbers_of_groups}
-use Rattle.bus.specs.declared.bus.Bus.{Ghosts}
+use Rattle.adapter.specs.model_types.offsets.TheConstants.{MTA, VFTA}
+use Rattle.rx_filter.specs.Addresses.{IsAddress}
+use Rattle.rx_filter.specs.NumberTables.{HasNumbers, numbers_of_groups}
+use Rattle.adapter.specs.bus_types.bus.Bus.{Ghosts}
 use Rattle.bring_up.specs.ConfiguredAdapters.{AreWords}
 use Rattle.bring_up.specs.DriverSteps.{accesses_of}
 use Rattle.bring_up.specs.FilterTables.{address_writes, table_writes}

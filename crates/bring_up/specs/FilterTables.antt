@@ -1,11 +1,11 @@
 -- The writes of initialization to the tables of the receive filter ("13.5.1 Multicast Table Array", "13.5.2 Receive
 -- Address Low", "13.5.3 Receive Address High", "13.5.4 VLAN Filter Table Array").
 use Rattle.std.specs.Prelude.{◌+◌, ◌-◌, ◌*◌, ◌++◌, ℕ, zero, suc, List, [], ◌∷◌}
-use Rattle.adapter.specs.declared.offsets.TheConstants.{ADDRESS_PAIR_BYTES, RAL, REGISTER_BYTES}
+use Rattle.adapter.specs.model_types.offsets.TheConstants.{ADDRESS_PAIR_BYTES, RAL, REGISTER_BYTES}
 use Rattle.registers.specs.Places.{alone, rah_av}
-use Rattle.rx_engine.specs.Addresses.{high_word, low_word}
-use Rattle.rx_engine.specs.declared.filter.TheConstants.{RECEIVE_ADDRESSES}
-use Rattle.bus.specs.Settings.{Write}
+use Rattle.rx_filter.specs.Addresses.{high_word, low_word}
+use Rattle.rx_filter.specs.declared.filter.TheConstants.{RECEIVE_ADDRESSES}
+use Rattle.adapter.specs.Settings.{Write}
 use Rattle.bring_up.specs.WrittenRegisters.{write_at}
 
 -- The writes of these words to consecutive registers, from an offset on.

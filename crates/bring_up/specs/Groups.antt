@@ -6,19 +6,19 @@ use Rattle.std.specs.Result.{OnOk}
 use Rattle.registers.specs.Bits.{HasBit}
 use Rattle.registers.specs.ReceiveControl.{shift_of}
 use Rattle.registers.specs.declared.receive_control.GroupOffset.TheVariants.{Bits47To36}
-use Rattle.rx_engine.specs.Addresses.{IsGroup, group_number}
-use Rattle.rx_engine.specs.NumberTables.{HasNumbers, numbers_of_groups}
+use Rattle.rx_filter.specs.Addresses.{IsGroup, group_number}
+use Rattle.rx_filter.specs.NumberTables.{HasNumbers, numbers_of_groups}
 use Rattle.adapter.specs.World.{World}
-use Rattle.adapter.specs.declared.offsets.TheConstants.{MTA, REGISTER_BYTES}
+use Rattle.adapter.specs.model_types.offsets.TheConstants.{MTA, REGISTER_BYTES}
 use Rattle.bring_up.specs.ConfiguredAdapters.{AreWords}
 use Rattle.bring_up.specs.WrittenRegisters.{register_limit}
 use Rattle.bring_up.specs.declared.config.TheConstants.{MOST_GROUPS}
 use Rattle.bring_up.specs.declared.groups.GroupError.{GroupError}
-use Rattle.bus.specs.declared.bus.Bus.{Ghosts}
-use Rattle.bus.specs.declared.event.Access.{Access}
-use Rattle.bus.specs.declared.event.Access.TheVariants.{Writes}
-use Rattle.bus.specs.Calls.{IsReadyOver, Moment, Ran, at, only}
-use Rattle.bus.specs.DriverState.{DriverState}
+use Rattle.adapter.specs.bus_types.bus.Bus.{Ghosts}
+use Rattle.adapter.specs.bus_types.event.Access.{Access}
+use Rattle.adapter.specs.bus_types.event.Access.TheVariants.{Writes}
+use Rattle.adapter.specs.Calls.{IsReadyOver, Moment, Ran, at, only}
+use Rattle.adapter.specs.DriverState.{DriverState}
 
 -- No group is in the list twice.
 abbrev pub EachOnce : List (List ℕ) → Type 0

@@ -1,23 +1,23 @@
 -- The commands of initialization to the PHY, and the link.
 use Rattle.std.specs.Prelude.{⊤, ◌≡◌, ◌≢◌, ◌≤◌, ◌<◌, ◌+◌, ◌*◌, ◌⊎◌, ℕ, true, Err, None, Result, IfErr, IfOk, IsOk, length}
 use Rattle.std.specs.Fn.{iterate}
-use Rattle.adapter.specs.declared.offsets.TheConstants.{MDIC}
-use Rattle.registers.specs.declared.phy.Link.{Link}
-use Rattle.registers.specs.declared.phy.Link.TheVariants.{After, Never}
-use Rattle.registers.specs.Mdic.{ended, kept_bits, operation_of, phy_ended}
-use Rattle.registers.specs.Phy.{PhyState, after_tick, negotiation_of}
-use Rattle.registers.specs.PhyPlaces.{control_enable, control_restart, mdic_op, mdic_phyadd, mdic_regadd}
+use Rattle.adapter.specs.model_types.offsets.TheConstants.{MDIC}
+use Rattle.mdic_phy.specs.declared.phy.Link.{Link}
+use Rattle.mdic_phy.specs.declared.phy.Link.TheVariants.{After, Never}
+use Rattle.mdic_phy.specs.Mdic.{ended, kept_bits, operation_of, phy_ended}
+use Rattle.mdic_phy.specs.Phy.{PhyState, after_tick, negotiation_of}
+use Rattle.mdic_phy.specs.PhyPlaces.{control_enable, control_restart, mdic_op, mdic_phyadd, mdic_regadd}
 use Rattle.registers.specs.Bits.{HasBit}
 use Rattle.registers.specs.Places.{alone}
 use Rattle.adapter.specs.State.{AdapterState}
 use Rattle.bring_up.specs.EepromReading.{most_reads}
-use Rattle.bus.specs.Law.{Management, management_of, phy_ticked}
-use Rattle.bus.specs.Link.{HasLink}
-use Rattle.bus.specs.declared.bus.Bus.{Ghosts}
+use Rattle.adapter.specs.Law.{Management, management_of, phy_ticked}
+use Rattle.adapter.specs.Link.{HasLink}
+use Rattle.adapter.specs.bus_types.bus.Bus.{Ghosts}
 use Rattle.bring_up.specs.declared.init_error.InitError.{InitError}
 use Rattle.bring_up.specs.declared.init_error.InitError.TheVariants.{NoLink, PhyTimeout}
 use Rattle.bring_up.specs.SettingSteps.{WritesOneRegister}
-use Rattle.registers.specs.PhyPlaces.{status_complete, status_link}
+use Rattle.mdic_phy.specs.PhyPlaces.{status_complete, status_link}
 
 -- A PHY with this link right after its autonegotiation was enabled and started.
 abbrev pub started : Link → PhyState

@@ -5,14 +5,14 @@ use Rattle.adapter.specs.HostFrames.{frames_held, frames_to_send}
 use Rattle.adapter.specs.Rings.{new_ring}
 use Rattle.adapter.specs.Table.{register_at}
 use Rattle.adapter.specs.World.{World}
-use Rattle.adapter.specs.declared.register.Register.{Register}
-use Rattle.adapter.specs.declared.register.Register.TheVariants.{Transmit}
-use Rattle.bus.specs.Pasts.{Past}
-use Rattle.bus.specs.AdaptersAtRest.{NoFrame}
-use Rattle.bus.specs.Settings.{AreSet, IsOff, LeavesReceiver, WhileOff, Write, writes_in}
-use Rattle.bus.specs.DriverState.{DriverState}
-use Rattle.bus.specs.Calls.{GoesTo, driver_did, driver_in, stores_from}
-use Rattle.bus.specs.ReadyDrivers.{ReadyWith}
+use Rattle.adapter.specs.model_types.register.Register.{Register}
+use Rattle.adapter.specs.model_types.register.Register.TheVariants.{Transmit}
+use Rattle.adapter.specs.Pasts.{Past}
+use Rattle.adapter.specs.AdaptersAtRest.{NoFrame}
+use Rattle.adapter.specs.Settings.{AreSet, IsOff, LeavesReceiver, WhileOff, Write, writes_in}
+use Rattle.adapter.specs.DriverState.{DriverState}
+use Rattle.adapter.specs.Calls.{GoesTo, driver_did, driver_in, stores_from}
+use Rattle.adapter.specs.ReadyDrivers.{ReadyWith}
 use Rattle.bring_up.specs.ClearedDescriptors.{clears_from}
 
 -- RCTL.EN is 0, no received frame is held, and no frame is to be sent.

@@ -5,13 +5,13 @@ use Rattle.dma_memory.specs.Owners.{HasOneOwner}
 use Rattle.adapter.specs.KnownRing.{KnowsRing}
 use Rattle.adapter.specs.Rings.{new_ring}
 use Rattle.adapter.specs.World.{World, receive_ring}
-use Rattle.bus.specs.AdaptersAtRest.{IsAtRest, NoFrame}
-use Rattle.bus.specs.Settings.{Write}
-use Rattle.bus.specs.declared.bus.Bus.{Ghosts}
-use Rattle.bus.specs.Beginnings.{IsAtBeginning, new_driver}
-use Rattle.bus.specs.DriverState.{DriverSetup, DriverState}
-use Rattle.bus.specs.ReadyDrivers.{ReadyWith}
-use Rattle.bus.specs.Resets.{RestsWith, reset_driver}
+use Rattle.adapter.specs.AdaptersAtRest.{IsAtRest, NoFrame}
+use Rattle.adapter.specs.Settings.{Write}
+use Rattle.adapter.specs.bus_types.bus.Bus.{Ghosts}
+use Rattle.adapter.specs.Beginnings.{IsAtBeginning, new_driver}
+use Rattle.adapter.specs.DriverState.{DriverSetup, DriverState}
+use Rattle.adapter.specs.ReadyDrivers.{ReadyWith}
+use Rattle.adapter.specs.Resets.{RestsWith, reset_driver}
 use Rattle.bring_up.specs.DriverSteps.{accesses_of}
 use Rattle.bring_up.specs.NoFrames.{HasNoFrames}
 use Rattle.bring_up.specs.SettingSteps.{Sets}

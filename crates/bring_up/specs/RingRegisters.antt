@@ -1,10 +1,10 @@
 -- The writes of initialization to the registers of the rings, and to RCTL and TCTL.
 use Rattle.std.specs.Prelude.{◌+◌, ◌*◌, ◌%◌, ◌/◌, ℕ, Bool, List, [], ◌∷◌, if◌then◌else◌}
-use Rattle.adapter.specs.declared.offsets.TheConstants.{RCTL, TCTL}
+use Rattle.adapter.specs.model_types.offsets.TheConstants.{RCTL, TCTL}
 use Rattle.adapter.specs.Rings.{ring_distance}
-use Rattle.adapter.specs.declared.register.RingRegister.TheVariants.{BaseHigh, Length, Head, Tail}
-use Rattle.bus.specs.Settings.{Write}
-use Rattle.bus.specs.declared.bus.Bus.{Ghosts}
+use Rattle.adapter.specs.model_types.register.RingRegister.TheVariants.{BaseHigh, Length, Head, Tail}
+use Rattle.adapter.specs.Settings.{Write}
+use Rattle.adapter.specs.bus_types.bus.Bus.{Ghosts}
 use Rattle.bring_up.specs.SettingSteps.{WriteActs}
 use Rattle.bring_up.specs.WrittenRegisters.{register_limit, write_at}
 use Rattle.registers.specs.Places.{alone, rctl_bam, rctl_bsize, rctl_en, rctl_mpe, rctl_secrc, rctl_upe, rctl_vfe}

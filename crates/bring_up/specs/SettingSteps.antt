@@ -2,16 +2,16 @@
 use Rattle.std.specs.Prelude.{⊤, ◌≡◌, ℕ, List, All, Option, Some}
 use Rattle.adapter.specs.Table.{register_at}
 use Rattle.adapter.specs.World.{world_after_write}
-use Rattle.adapter.specs.declared.register.Register.{Register}
-use Rattle.adapter.specs.declared.register.Register.TheVariants.{Icr, Ics}
-use Rattle.bus.specs.AdaptersAtRest.{IsAtRest, IsElsewhere, NoFrame}
-use Rattle.bus.specs.Keeping.{view_of}
-use Rattle.bus.specs.Law.{Acts}
-use Rattle.bus.specs.Link.{HasLink, LeavesPhy}
-use Rattle.bus.specs.Pasts.{Past}
-use Rattle.bus.specs.Settings.{Write, settings_after_all, settings_of, writes_in}
-use Rattle.bus.specs.declared.bus.Bus.{Ghosts}
-use Rattle.bus.specs.declared.event.Access.TheVariants.{Writes}
+use Rattle.adapter.specs.model_types.register.Register.{Register}
+use Rattle.adapter.specs.model_types.register.Register.TheVariants.{Icr, Ics}
+use Rattle.adapter.specs.AdaptersAtRest.{IsAtRest, IsElsewhere, NoFrame}
+use Rattle.adapter.specs.Keeping.{view_of}
+use Rattle.adapter.specs.Law.{Acts}
+use Rattle.adapter.specs.Link.{HasLink, LeavesPhy}
+use Rattle.adapter.specs.Pasts.{Past}
+use Rattle.adapter.specs.Settings.{Write, settings_after_all, settings_of, writes_in}
+use Rattle.adapter.specs.bus_types.bus.Bus.{Ghosts}
+use Rattle.adapter.specs.bus_types.event.Access.TheVariants.{Writes}
 use Rattle.bring_up.specs.DriverSteps.{accesses_of}
 
 -- The write is neither a write of RCTL nor of a register of a ring.

@@ -1,8 +1,8 @@
 -- The writes of initialization to CTRL, IMC, PBA and IMS ("14.3 General Initialization"). The order is our choice. The writes to the filter
 -- are in `FilterTables`, and those to RCTL, TCTL and the rings' registers in `RingRegisters`.
 use Rattle.std.specs.Prelude.{◌+◌, ◌^◌, ℕ, List, [], ◌∷◌}
-use Rattle.adapter.specs.declared.offsets.TheConstants.{CTRL, IMC, IMS, PBA}
-use Rattle.bus.specs.Settings.{Write}
+use Rattle.adapter.specs.model_types.offsets.TheConstants.{CTRL, IMC, IMS, PBA}
+use Rattle.adapter.specs.Settings.{Write}
 use Rattle.registers.specs.Places.{alone, ctrl_asde, ctrl_rst, ctrl_slu, rxdmt0, rxo, rxt0, txdw}
 
 -- A register has 32 bits, so its value is below this number (chapter 13, "Register Descriptions").

@@ -2,19 +2,19 @@
 
 ghost use Rattle.std.specs.Prelude.{◌≡◌, ◌++◌, ℕ, Bool, List, true};
 ghost use Rattle.dma_memory.specs.Owners.{HaveSameNumbers};
-ghost use Rattle.bus.specs.AdaptersAtRest.{IsAtRest};
-ghost use Rattle.bus.specs.Keeping.{Keeps};
-ghost use Rattle.bus.specs.Link.{HasLink};
+ghost use Rattle.adapter.specs.AdaptersAtRest.{IsAtRest};
+ghost use Rattle.adapter.specs.Keeping.{Keeps};
+ghost use Rattle.adapter.specs.Link.{HasLink};
 ghost use Rattle.bring_up.specs.DriverSteps.{EnablesCauses, ResetsDriver};
 ghost use Rattle.bring_up.specs.SettingSteps.{Sets, SetsOnly};
 ghost use Rattle.bring_up.specs.WrittenRegisters.{allocation_writes, handled_causes, enable_link_writes};
 ghost use Rattle.bring_up.specs.WrittenRegisters.{mask_writes, reset_writes};
-ghost use Rattle.bus.specs.Calls.{IsReadyOver, at};
-ghost use Rattle.bus.specs.DriverState.{DriverState};
+ghost use Rattle.adapter.specs.Calls.{IsReadyOver, at};
+ghost use Rattle.adapter.specs.DriverState.{DriverState};
 
+use adapter::Bus;
 use adapter::offsets::{CTRL, ICR, IMC, IMS, PBA};
 use bitflags::Flags;
-use bus::Bus;
 use registers::{Cause, Ctrl};
 
 /// Resets the device, disables all interrupt causes and clears the recorded causes ("14.3 General Initialization").

@@ -2,12 +2,12 @@
 
 ghost use Rattle.std.specs.Prelude.{◌≡◌, ◌+◌, ◌*◌, ◌<◌, ◌≤◌, ℕ, Bool, false, length};
 ghost use Rattle.dma_memory.specs.Layout.{descriptor_bytes};
-ghost use Rattle.bus.specs.Keeping.{Keeps};
-ghost use Rattle.bus.specs.Calls.{IsReadyOver, Ran, at, only};
-ghost use Rattle.bus.specs.DriverState.{DriverState, address_limit, receive_slot, transmit_slot};
+ghost use Rattle.adapter.specs.Keeping.{Keeps};
+ghost use Rattle.adapter.specs.Calls.{IsReadyOver, Ran, at, only};
+ghost use Rattle.adapter.specs.DriverState.{DriverState, address_limit, receive_slot, transmit_slot};
 ghost use Rattle.bring_up.specs.ClearedDescriptors.{clears_from};
 
-use bus::Bus;
+use adapter::Bus;
 use dma_memory::DESCRIPTOR_BYTES;
 
 /// The 16 bytes of a cleared descriptor, all 0.

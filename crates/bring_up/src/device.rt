@@ -1,15 +1,15 @@
 //! Finds the device: resets it, reads its EEPROM, and waits for its link.
 
 ghost use Rattle.std.specs.Prelude.{IfErr};
-ghost use Rattle.bus.specs.Keeping.{Keeps};
+ghost use Rattle.adapter.specs.Keeping.{Keeps};
 ghost use Rattle.bring_up.specs.Device.{FindsDevice, IsBeforeAccess};
 
 use crate::controls::{allocate_packet_buffer, reset_device, set_link_up};
 use crate::eeprom_reading::read_image;
 use crate::init_error::InitError;
 use crate::link::{await_link, negotiate};
-use bus::Bus;
-use registers::{Image, checksum_ok};
+use adapter::Bus;
+use eeprom::{Image, checksum_ok};
 
 /// Resets the device, reads its EEPROM, assigns `kilobytes` of the packet buffer to received frames, and enables the
 /// link. Then starts negotiation, and waits until the link is up and negotiated. Returns the image of the EEPROM.

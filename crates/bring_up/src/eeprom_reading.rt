@@ -1,14 +1,14 @@
 //! Reads the EEPROM word by word ("13.4.4 EEPROM Read Register").
 
 ghost use Rattle.std.specs.Prelude.{IsOk, IsOkUnless};
-ghost use Rattle.bus.specs.Keeping.{Keeps};
+ghost use Rattle.adapter.specs.Keeping.{Keeps};
 ghost use Rattle.bring_up.specs.EepromReading.{ReadsImage, ReadsWord};
 
 use crate::MOST_READS;
 use crate::init_error::InitError;
+use adapter::Bus;
 use adapter::offsets::EERD;
-use bus::Bus;
-use registers::{Image, WORDS};
+use eeprom::{Image, WORDS};
 
 /// START, bit 0 of EERD: a write of EERD with START begins a read of the EEPROM.
 const START: u32 = 1 << 0;

@@ -1,15 +1,15 @@
 //! Sets up the receive filter, and returns the VLANs of a configuration.
 
 ghost use Rattle.std.specs.Prelude.{◌≡◌, ◌<◌, All};
-ghost use Rattle.rx_engine.specs.NumberTables.{table_numbers};
-ghost use Rattle.bus.specs.Keeping.{Keeps};
+ghost use Rattle.rx_filter.specs.NumberTables.{table_numbers};
+ghost use Rattle.adapter.specs.Keeping.{Keeps};
 ghost use Rattle.bring_up.specs.Configuration.{vlans_of};
 ghost use Rattle.bring_up.specs.FilterSetting.{SetsFilter};
 
 use crate::config::MOST_VLANS;
 use crate::filter_tables::{group_table, vlan_table, write_addresses, write_groups, write_vlans};
+use adapter::Bus;
 use arrayvec::ArrayVec;
-use bus::Bus;
 
 /// Sets up the receive filter. Writes the group table with the bits of these groups, and the VLAN table with the bits
 /// of these VLANs, whose numbers must be below 4,096. Then writes this address as the only receive address.

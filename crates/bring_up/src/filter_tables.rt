@@ -1,18 +1,18 @@
 //! The registers of the receive filter ("13.5.1 Multicast Table Array" to "13.5.4 VLAN Filter Table Array").
 
 ghost use Rattle.std.specs.Prelude.{◌≡◌, ◌<◌, ◌^◌, All, replicate};
-ghost use Rattle.rx_engine.specs.Addresses.{IsAddress};
-ghost use Rattle.rx_engine.specs.NumberTables.{HasNumbers, numbers_of_groups, table_numbers};
-ghost use Rattle.rx_engine.specs.Writing.{with_number};
-ghost use Rattle.bus.specs.Keeping.{Keeps};
+ghost use Rattle.rx_filter.specs.Addresses.{IsAddress};
+ghost use Rattle.rx_filter.specs.NumberTables.{HasNumbers, numbers_of_groups, table_numbers};
+ghost use Rattle.rx_filter.specs.Writing.{with_number};
+ghost use Rattle.adapter.specs.Keeping.{Keeps};
 ghost use Rattle.bring_up.specs.ConfiguredAdapters.{AreWords};
 ghost use Rattle.bring_up.specs.FilterTables.{address_writes, entry_writes, table_writes};
 ghost use Rattle.bring_up.specs.SettingSteps.{SetsOnly};
 
+use adapter::Bus;
 use adapter::offsets::{ADDRESS_PAIR_BYTES, MTA, RAL, REGISTER_BYTES, VFTA};
-use bus::Bus;
 use registers::GroupOffset;
-use rx_engine::{AddressWords, RECEIVE_ADDRESSES, TABLE_WORDS, TableBit, hash_of};
+use rx_filter::{AddressWords, RECEIVE_ADDRESSES, TABLE_WORDS, TableBit, hash_of};
 
 /// Returns the group table with the bits of these groups. Bits 47:36 of a group's address select the group's bit
 /// (RCTL.MO is 00). All other bits are 0.

@@ -4,22 +4,22 @@ ghost use Rattle.std.specs.Prelude.{◌≡◌, ◌≢◌, ◌≤◌, ◌<◌, �
 ghost use Rattle.std.specs.Prelude.{Err, IfNone, IfSome, IsTrue, Some, slice_get};
 ghost use Rattle.std.specs.Result.{OnErr, OnOk};
 ghost use Rattle.std.specs.List.{Contains};
-ghost use Rattle.rx_engine.specs.Addresses.{IsGroup};
-ghost use Rattle.rx_engine.specs.GroupLists.{Removes};
-ghost use Rattle.bus.specs.Keeping.{Keeps};
+ghost use Rattle.rx_filter.specs.Addresses.{IsGroup};
+ghost use Rattle.rx_filter.specs.GroupLists.{Removes};
+ghost use Rattle.adapter.specs.Keeping.{Keeps};
 ghost use Rattle.bring_up.specs.WrittenRegisters.{register_limit};
-ghost use Rattle.bus.specs.declared.event.Access.TheVariants.{Writes};
-ghost use Rattle.bus.specs.Calls.{IsReadyOver, Ran, at, only};
-ghost use Rattle.bus.specs.DriverState.{DriverState};
+ghost use Rattle.adapter.specs.bus_types.event.Access.TheVariants.{Writes};
+ghost use Rattle.adapter.specs.Calls.{IsReadyOver, Ran, at, only};
+ghost use Rattle.adapter.specs.DriverState.{DriverState};
 ghost use Rattle.bring_up.specs.Groups.{AreNamedOnce, ChangesGroups, HasNumber, RewritesWord};
 ghost use Rattle.bring_up.specs.declared.groups.GroupError.TheVariants.{GroupsFull, Joined, NotGroup, NotJoined};
 
 use crate::{MOST_GROUPS, group_table};
+use adapter::Bus;
 use adapter::offsets::{MTA, REGISTER_BYTES};
 use arrayvec::ArrayVec;
-use bus::Bus;
 use registers::GroupOffset;
-use rx_engine::{TABLE_WORDS, TableBit, hash_of};
+use rx_filter::{TABLE_WORDS, TableBit, hash_of};
 use std::marker::Model;
 use thiserror::Error;
 

@@ -3,14 +3,14 @@
 ghost use Rattle.std.specs.Prelude.{◌≡◌, ◌⊎◌, ◌↔◌, IfErr, IsOkUnless, IsTrue};
 ghost use Rattle.registers.specs.Bits.{Meet};
 ghost use Rattle.registers.specs.Places.{alone};
-ghost use Rattle.registers.specs.PhyPlaces.{status_complete, status_link};
-ghost use Rattle.bus.specs.Keeping.{Keeps};
+ghost use Rattle.mdic_phy.specs.PhyPlaces.{status_complete, status_link};
+ghost use Rattle.adapter.specs.Keeping.{Keeps};
 ghost use Rattle.bring_up.specs.Link.{AwaitsLink, Commands, IsCommand, Negotiates};
 
 use crate::MOST_READS;
 use crate::init_error::InitError;
+use adapter::Bus;
 use adapter::offsets::MDIC;
-use bus::Bus;
 
 /// The PHY's address, 1, in PHYADD, bits 25:21 of MDIC.
 const PHY_ADDRESS: u32 = 1 << 21;

@@ -3,9 +3,9 @@
 
 ghost use Rattle.std.specs.Prelude.{◌≡◌, ◌%◌, ◌/◌, ◌*◌, ◌≤◌, ℕ, Bool, true, false};
 ghost use Rattle.dma_memory.specs.Layout.{IsRingSize, descriptor_bytes};
-ghost use Rattle.bus.specs.Keeping.{Keeps};
-ghost use Rattle.bus.specs.Calls.{IsReadyOver, at};
-ghost use Rattle.bus.specs.DriverState.{DriverState};
+ghost use Rattle.adapter.specs.Keeping.{Keeps};
+ghost use Rattle.adapter.specs.Calls.{IsReadyOver, at};
+ghost use Rattle.adapter.specs.DriverState.{DriverState};
 ghost use Rattle.bring_up.specs.DriverSteps.{CanSetTransmitRing, HasTransmitRing, LeavesDriver, LetsFramesIn};
 ghost use Rattle.bring_up.specs.DriverSteps.{ReceiverIsOff, SetsTransmitRing};
 ghost use Rattle.bring_up.specs.RestingRings.{HasNewRings, HasReceiveRing, SetsAtRest};
@@ -14,9 +14,9 @@ ghost use Rattle.bring_up.specs.RingRegisters.{ring_setup_writes, transmit_contr
 ghost use Rattle.bring_up.specs.SettingSteps.{SetsOnly};
 ghost use Rattle.bring_up.specs.WrittenRegisters.{register_limit};
 
+use adapter::Bus;
 use adapter::offsets::{RCTL, RDBAH, RDBAL, RDH, RDLEN, RDT, TCTL, TDBAL};
 use bitflags::Flags;
-use bus::Bus;
 use registers::{Rctl, Tctl};
 
 /// The collision threshold, 15 retransmissions (13.4.33), in TCTL.CT. The threshold matters only in half duplex, and

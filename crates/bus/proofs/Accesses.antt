@@ -2,13 +2,13 @@
 -- `LeavesMask` don't change the mask.
 use Rattle.std.proofs.Common.{◌≡◌, ◌≢◌, ℕ, Bool, Option, Some, None, refl, sym, ap, subst, ◌∙◌, cond}
 use Rattle.std.specs.Prelude.{IfSome}
-use Rattle.adapter.specs.Registers.{after_reset, by_row, left_by_read, left_by_write, read_of, write_of}
-use Rattle.adapter.specs.State.{AdapterState}
-use Rattle.adapter.specs.Table.{IsInTable, register_at, row_of}
-use Rattle.adapter.specs.TableLaws.{register_at-there}
-use Rattle.adapter.specs.World.{World}
-use Rattle.adapter.specs.declared.register.Register.{Register}
-use Rattle.adapter.specs.declared.register.Register.TheVariants.{Icr, Ics, Ims, Imc, Mpc, Gprc, Gptc, Rnbc, Receive, Transmit}
+use Rattle.adapter_model.specs.Registers.{after_reset, by_row, left_by_read, left_by_write, read_of, write_of}
+use Rattle.adapter_model.specs.State.{AdapterState}
+use Rattle.adapter_model.specs.Table.{IsInTable, register_at, row_of}
+use Rattle.adapter_model.specs.TableLaws.{register_at-there}
+use Rattle.adapter_model.specs.World.{World}
+use Rattle.adapter_model.specs.declared.register.Register.{Register}
+use Rattle.adapter_model.specs.declared.register.Register.TheVariants.{Icr, Ics, Ims, Imc, Mpc, Gprc, Gptc, Rnbc, Receive, Transmit}
 use Rattle.bus.specs.Accesses.{LeavesCauses, LeavesInterrupts, LeavesMask}
 use Rattle.bus.specs.Accesses.{MovesCauses, MovesMask, ResetsNothing, StaysAtRead, WriteLeavesCauses, WriteLeavesMask}
 use Rattle.bus.specs.Accesses.{QuietAccessesLeaveAdapters, QuietAccessesLeaveInterrupts, QuietAccessesLeaveWorlds}

@@ -7,17 +7,17 @@ use Rattle.registers.specs.Laws.{HasBit-zero}
 use Rattle.rx_engine.specs.Held.{held, in_slots}
 use Rattle.rx_engine.specs.Pieces.{Piece, frames_of}
 use Rattle.rx_engine.specs.Receiver.{Receiver, new_receiver, oldest}
-use Rattle.rx_engine.specs.Registers.{FilterRegisters}
+use Rattle.rx_filter.specs.Registers.{FilterRegisters}
 use Rattle.tx_engine.specs.Transmitter.{Transmitter, new_transmitter}
-use Rattle.adapter.specs.declared.register.Register.{Register}
-use Rattle.adapter.specs.declared.register.Register.TheVariants.{Icr, Mpc, Gprc, Gptc, Rctl, Receive, Rnbc, Transmit}
-use Rattle.adapter.specs.HostFrames.{finished_pieces, frames_held, frames_to_send, piece_in}
-use Rattle.adapter.specs.Registers.{after_reset, by_row, is_reset, left_by_read, left_by_write, read_of, write_of}
-use Rattle.adapter.specs.Running.{CanRun, CanTransmit}
-use Rattle.adapter.specs.Slots.{is_done}
-use Rattle.adapter.specs.State.{AdapterState}
-use Rattle.adapter.specs.Table.{register_at, row_of}
-use Rattle.adapter.specs.World.{World, receive_ring, transmit_ring}
+use Rattle.adapter_model.specs.declared.register.Register.{Register}
+use Rattle.adapter_model.specs.declared.register.Register.TheVariants.{Icr, Mpc, Gprc, Gptc, Rctl, Receive, Rnbc, Transmit}
+use Rattle.adapter_model.specs.HostFrames.{finished_pieces, frames_held, frames_to_send, piece_in}
+use Rattle.adapter_model.specs.Registers.{after_reset, by_row, is_reset, left_by_read, left_by_write, read_of, write_of}
+use Rattle.adapter_model.specs.Running.{CanRun, CanTransmit}
+use Rattle.adapter_model.specs.Slots.{is_done}
+use Rattle.adapter_model.specs.State.{AdapterState}
+use Rattle.adapter_model.specs.Table.{register_at, row_of}
+use Rattle.adapter_model.specs.World.{World, receive_ring, transmit_ring}
 use Rattle.bus.specs.IdleRings.{IsIdle, IsOfRing, moved_bytes}
 use Rattle.bus.specs.declared.event.Access.TheVariants.{Loads, Reads, Stores, Writes}
 use Rattle.bus.specs.AdaptersAtRest.{AccessesKeepRest, HappeningsKeepRest, IsAtRest, IsElsewhere, RestAfterReset, RestIsIdle}

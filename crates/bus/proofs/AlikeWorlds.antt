@@ -8,13 +8,13 @@ use Rattle.dma_memory.specs.Layout.{size_of, receive_buffer_bytes}
 use Rattle.rx_engine.specs.Descriptors.{named_address}
 use Rattle.tx_engine.specs.Transmitter.{Queued}
 use Rattle.descriptors.specs.declared.ring.Ring.{Ring}
-use Rattle.adapter.specs.Rings.{ring_of}
-use Rattle.adapter.specs.Slots.{outstanding}
-use Rattle.adapter.specs.State.{AdapterState}
-use Rattle.adapter.specs.World.{World, receive_ring, transmit_ring}
-use Rattle.adapter.specs.declared.ring.RingRegisters.{RingRegisters}
+use Rattle.adapter_model.specs.Rings.{ring_of}
+use Rattle.adapter_model.specs.Slots.{outstanding}
+use Rattle.adapter_model.specs.State.{AdapterState}
+use Rattle.adapter_model.specs.World.{World, receive_ring, transmit_ring}
+use Rattle.adapter_model.specs.declared.ring.RingRegisters.{RingRegisters}
 use Rattle.bus.specs.DriversStores.{LeavesFrames}
-use Rattle.adapter.specs.KnownRing.{KnowsRing}
+use Rattle.adapter_model.specs.KnownRing.{KnowsRing}
 use Rattle.bus.specs.DriverState.{DriverState, receive_tail}
 use Rattle.bus.specs.ReadyDrivers.{AreStored, ReadyWith, Stands, TransmitIs, transmit_side, MeetsLaw, IsDriver}
 

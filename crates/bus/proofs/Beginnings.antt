@@ -6,11 +6,11 @@ use Rattle.std.specs.List.{All, take_while}
 use Rattle.dma_memory.specs.Layout.{Counts, receive_buffer_bytes}
 use Rattle.rx_engine.specs.Descriptors.{named_address}
 use Rattle.rx_engine.specs.declared.engine.Work.{Work}
-use Rattle.adapter.specs.Conditions.{FitBuffers, Sound}
-use Rattle.adapter.specs.HostAreas.{buffer_size, work_areas}
-use Rattle.adapter.specs.HostFrames.{named}
-use Rattle.adapter.specs.Slots.{finished, is_done, outstanding}
-use Rattle.adapter.specs.World.{World, receive_ring}
+use Rattle.adapter_model.specs.Conditions.{FitBuffers, Sound}
+use Rattle.adapter_model.specs.HostAreas.{buffer_size, work_areas}
+use Rattle.adapter_model.specs.HostFrames.{named}
+use Rattle.adapter_model.specs.Slots.{finished, is_done, outstanding}
+use Rattle.adapter_model.specs.World.{World, receive_ring}
 use Rattle.bus.proofs.IdleRings.{idle_rings_are_sound, outstanding-none}
 use Rattle.bus.proofs.Lists.{all-none}
 use Rattle.bus.proofs.EndedFrames.{none-cut}

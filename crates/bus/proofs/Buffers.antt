@@ -13,10 +13,10 @@ use Rattle.dma_memory.specs.OwnersLaws.{copies-cons, copies-itself}
 use Rattle.descriptors.specs.declared.ring.Ring.{Ring}
 use Rattle.descriptors.specs.Ring.{count_of, slots_from}
 use Rattle.rx_engine.specs.Descriptors.{named_address}
-use Rattle.adapter.specs.HostAreas.{IsForeign, areas, data_of, ring_area}
-use Rattle.adapter.specs.Slots.{outstanding}
-use Rattle.adapter.specs.World.{World, receive_ring, transmit_ring}
-use Rattle.adapter.specs.KnownRing.{KnowsRing}
+use Rattle.adapter_model.specs.HostAreas.{IsForeign, areas, data_of, ring_area}
+use Rattle.adapter_model.specs.Slots.{outstanding}
+use Rattle.adapter_model.specs.World.{World, receive_ring, transmit_ring}
+use Rattle.adapter_model.specs.KnownRing.{KnowsRing}
 use Rattle.bus.specs.SpareMemory.{IsSpare}
 use Rattle.bus.proofs.IdleRings.{outstanding-none}
 use Rattle.bus.proofs.Lists.{all-head, all-none, all-tail, all-unmapped}

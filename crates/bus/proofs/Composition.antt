@@ -4,20 +4,20 @@ use Rattle.std.proofs.Common.{arith, length, length-append}
 use Rattle.std.proofs.lemmas.List.{append-nil}
 use Rattle.std.specs.Fn.{iterate}
 use Rattle.std.specs.List.{All}
-use Rattle.registers.specs.Eerd as eeprom
+use Rattle.eeprom.specs.Eerd as eeprom
 use Rattle.registers.specs.Bits.{HasBit}
 use Rattle.registers.specs.Places.{rxt0}
 use Rattle.rx_engine.specs.Pieces.{IsPart, Piece}
-use Rattle.rx_engine.specs.Registers.{FilterRegisters}
-use Rattle.adapter.specs.declared.ring.RingRegisters.{RingRegisters}
-use Rattle.adapter.specs.Slots.{finished, written_back_slots}
-use Rattle.adapter.specs.HostFrames.{finished_pieces, frames_held, frames_to_send}
+use Rattle.rx_filter.specs.Registers.{FilterRegisters}
+use Rattle.adapter_model.specs.declared.ring.RingRegisters.{RingRegisters}
+use Rattle.adapter_model.specs.Slots.{finished, written_back_slots}
+use Rattle.adapter_model.specs.HostFrames.{finished_pieces, frames_held, frames_to_send}
 use Rattle.bus.specs.Law.{Between, Happens, OnlyHeadMoves, PutsInOrder, Steady, StoresInOrder, management_of, phy_ticked}
 use Rattle.bus.specs.Pasts.{Past, joined, nothing}
-use Rattle.adapter.specs.World.{World}
+use Rattle.adapter_model.specs.World.{World}
 use Rattle.descriptors.specs.Frames.{IsLegal}
 use Rattle.descriptors.specs.Ring.{HasValidIndices}
-use Rattle.adapter.specs.Rings.{ring_of}
+use Rattle.adapter_model.specs.Rings.{ring_of}
 use Rattle.std.proofs.lemmas.List.Elements.{All-append}
 use Rattle.bus.proofs.Lists.{all-none}
 use Rattle.bus.proofs.EngineRegisters.{no-arrivals, steady_moves}

@@ -10,13 +10,13 @@ use Rattle.rx_engine.specs.Descriptors.{descriptor_at}
 use Rattle.rx_engine.specs.Held.{piece_of}
 use Rattle.rx_engine.specs.PieceLaws.{last-begun, last-frames, part-begun, part-frames}
 use Rattle.rx_engine.specs.Pieces.{IsCut, Piece, begun_of, frames_of}
-use Rattle.adapter.specs.Conditions.{AreCut}
-use Rattle.adapter.specs.HostAreas.{buffer_size}
-use Rattle.adapter.specs.HostFrames.{pieces_in_slots}
+use Rattle.adapter_model.specs.Conditions.{AreCut}
+use Rattle.adapter_model.specs.HostAreas.{buffer_size}
+use Rattle.adapter_model.specs.HostFrames.{pieces_in_slots}
 use Rattle.registers.specs.Bits.{HasBit}
 use Rattle.registers.specs.Places.{rctl_en}
-use Rattle.adapter.specs.Slots.{finished}
-use Rattle.adapter.specs.World.{World}
+use Rattle.adapter_model.specs.Slots.{finished}
+use Rattle.adapter_model.specs.World.{World}
 use Rattle.bus.proofs.KeptPieces.{SameDescriptors}
 use Rattle.bus.proofs.Lists.{all-none}
 

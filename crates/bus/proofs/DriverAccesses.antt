@@ -1,7 +1,7 @@
 -- Accesses over a bus, one after the other, as intervals of a driver's run.
 use Rattle.std.proofs.Common.{◌≡◌, Bool, ◌++◌, ◌∷◌, [], ℕ, List, refl, sym, ap, subst, ◌∙◌}
 use Rattle.std.specs.List.{All}
-use Rattle.adapter.specs.World.{World, world_after_read, world_after_store, world_after_write}
+use Rattle.adapter_model.specs.World.{World, world_after_read, world_after_store, world_after_write}
 use Rattle.bus.specs.Keeping.{view_of}
 use Rattle.bus.specs.Law.{Acts, Happens}
 use Rattle.bus.specs.Link.{HasLink, KeepsLink, LeavesPhy}

@@ -1,10 +1,10 @@
 -- The worlds after a write of a register of the transmit ring, of RCTL, and of TCTL.
 use Rattle.std.proofs.Common.{ℕ, Option, ap}
-use Rattle.adapter.specs.Registers.{left_by_write}
-use Rattle.adapter.specs.TableLaws.{register_at-there}
-use Rattle.adapter.specs.World.{World}
-use Rattle.adapter.specs.declared.register.Register.{Register}
-use Rattle.adapter.specs.declared.register.Register.TheVariants.{Rctl, Tctl, Transmit}
+use Rattle.adapter_model.specs.Registers.{left_by_write}
+use Rattle.adapter_model.specs.TableLaws.{register_at-there}
+use Rattle.adapter_model.specs.World.{World}
+use Rattle.adapter_model.specs.declared.register.Register.{Register}
+use Rattle.adapter_model.specs.declared.register.Register.TheVariants.{Rctl, Tctl, Transmit}
 use Rattle.bus.specs.ControlWrites.{ReceiveControlWrites, TransmitControlWrites, TransmitRingWrites}
 
 -- the world after a write of the register that was found at the offset

@@ -18,15 +18,15 @@ use Rattle.dma_memory.specs.Areas.{AreApart, Area, IsInside, bytes_in, descripto
 use Rattle.dma_memory.specs.AreaLaws.{apart-inside, apart-sym, inside-apart}
 use Rattle.descriptors.specs.declared.ring.Ring.{Ring}
 use Rattle.descriptors.specs.Ring.{address_of, count_of}
-use Rattle.adapter.specs.Rings.{ring_of}
-use Rattle.adapter.specs.declared.ring.RingRegisters.{RingRegisters}
+use Rattle.adapter_model.specs.Rings.{ring_of}
+use Rattle.adapter_model.specs.declared.ring.RingRegisters.{RingRegisters}
 use Rattle.rx_engine.specs.Descriptors as receive
-use Rattle.adapter.specs.Slots.{buffered, finished, slots_in_work, offered, outstanding, written_back_slots}
-use Rattle.adapter.specs.HostAreas.{data_of, frame_areas, IsForeign, offered_buffers, reported_half, ring_area, status_byte, work_areas}
-use Rattle.adapter.specs.HostFrames.{named}
-use Rattle.adapter.specs.Conditions.{Sound}
+use Rattle.adapter_model.specs.Slots.{buffered, finished, slots_in_work, offered, outstanding, written_back_slots}
+use Rattle.adapter_model.specs.HostAreas.{data_of, frame_areas, IsForeign, offered_buffers, reported_half, ring_area, status_byte, work_areas}
+use Rattle.adapter_model.specs.HostFrames.{named}
+use Rattle.adapter_model.specs.Conditions.{Sound}
 use Rattle.bus.specs.DriversSlots.{DriversSideStaysAlways, IsDriversSlot, frame_named}
-use Rattle.adapter.specs.World.{receive_ring, transmit_ring, World}
+use Rattle.adapter_model.specs.World.{receive_ring, transmit_ring, World}
 use Rattle.bus.proofs.WrittenAreas.{named-same}
 use Rattle.bus.proofs.Lists.{all-head, all-left, all-none, all-right, all-tail, all-unmapped, map-same, pairs-head, pairs-right, pairs-tail}
 use Rattle.bus.proofs.Rings.{dealt-left, dealt-right, each-outstanding, far-apart, outstanding-apart, outstanding-inside, slot-inside}

@@ -6,12 +6,12 @@ use Rattle.dma_memory.specs.AreaLaws.{changes_only_stored}
 use Rattle.dma_memory.specs.HostMemory.{LiesIn, with_bytes}
 use Rattle.dma_memory.specs.Laws.{length-with_bytes}
 use Rattle.tx_engine.specs.Transmitter.{Queued}
-use Rattle.adapter.specs.HostAreas.{areas, buffer_of, data_of, offered_buffers, receives, reported_half, ring_area, status_byte, work_areas}
-use Rattle.adapter.specs.Slots.{buffered, finished, slots_in_work, offered, outstanding}
-use Rattle.adapter.specs.HostFrames.{named}
-use Rattle.adapter.specs.Conditions.{Reports, Sound}
+use Rattle.adapter_model.specs.HostAreas.{areas, buffer_of, data_of, offered_buffers, receives, reported_half, ring_area, status_byte, work_areas}
+use Rattle.adapter_model.specs.Slots.{buffered, finished, slots_in_work, offered, outstanding}
+use Rattle.adapter_model.specs.HostFrames.{named}
+use Rattle.adapter_model.specs.Conditions.{Reports, Sound}
 use Rattle.bus.specs.DriversStores.{IsDriversArea, DriversStoresLeaveForeign, DriversStoresLeaveFrames}
-use Rattle.adapter.specs.World.{receive_ring, transmit_ring, World, world_after_store}
+use Rattle.adapter_model.specs.World.{receive_ring, transmit_ring, World, world_after_store}
 use Rattle.bus.proofs.Areas.{separate-same}
 use Rattle.bus.proofs.WrittenAreas.{IsSame, buffers-kept, receive_kept_by_slots, same-apart, transmit_kept_by_slots}
 use Rattle.bus.proofs.Lists.{all-left, all-right}

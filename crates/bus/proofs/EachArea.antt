@@ -3,10 +3,10 @@ use Rattle.std.proofs.Common.{◌++◌, ◌∷◌, ℕ, map}
 use Rattle.std.specs.List.{All}
 use Rattle.std.proofs.lemmas.List.Elements.{All-append, All-cons, All-map}
 use Rattle.dma_memory.specs.Areas.{Area}
-use Rattle.adapter.specs.HostAreas.{areas, data_of, frame_areas, offered_buffers, ring_area, work_areas}
-use Rattle.adapter.specs.Slots.{finished, offered}
-use Rattle.adapter.specs.HostFrames.{named}
-use Rattle.adapter.specs.World.{receive_ring, transmit_ring, World}
+use Rattle.adapter_model.specs.HostAreas.{areas, data_of, frame_areas, offered_buffers, ring_area, work_areas}
+use Rattle.adapter_model.specs.Slots.{finished, offered}
+use Rattle.adapter_model.specs.HostFrames.{named}
+use Rattle.adapter_model.specs.World.{receive_ring, transmit_ring, World}
 use Rattle.bus.proofs.Lists.{all-head, all-left, all-right, all-tail, all-unmapped}
 
 pub record OfAreas (P : Area → Type 0) (o : ℕ) (a : World) : Type 0 where

@@ -9,13 +9,13 @@ use Rattle.rx_engine.specs.Held.{in_slots, in_work}
 use Rattle.rx_engine.specs.Pieces.{IsCut, IsPart, Piece, begun_from, begun_of, frames_from, frames_of, parts}
 use Rattle.rx_engine.specs.Pieces.Piece.{Last, Part}
 use Rattle.rx_engine.specs.PieceLaws.{begun-append, begun-parts, frames-append, frames-parts}
-use Rattle.adapter.specs.Conditions.{AreCut}
-use Rattle.adapter.specs.HostAreas.{buffer_size}
-use Rattle.adapter.specs.HostFrames.{finished_pieces, piece_in, pieces_in_slots}
+use Rattle.adapter_model.specs.Conditions.{AreCut}
+use Rattle.adapter_model.specs.HostAreas.{buffer_size}
+use Rattle.adapter_model.specs.HostFrames.{finished_pieces, piece_in, pieces_in_slots}
 use Rattle.registers.specs.Bits.{HasBit}
 use Rattle.registers.specs.Places.{rctl_en}
-use Rattle.adapter.specs.Slots.{finished}
-use Rattle.adapter.specs.World.{World}
+use Rattle.adapter_model.specs.Slots.{finished}
+use Rattle.adapter_model.specs.World.{World}
 use Rattle.bus.proofs.Lists.{all-head, all-left, all-none, all-tail}
 
 pub frames-none : (begun : List ℕ) (pieces : List Piece) → All IsPart pieces → frames_from begun pieces ≡ []

@@ -5,8 +5,8 @@ use Rattle.registers.specs.Bits.{HasBit, union}
 use Rattle.registers.specs.Laws.{HasBit-union}
 use Rattle.descriptors.specs.Frames.{IsLegal}
 use Rattle.descriptors.specs.Ring.{HasValidIndices}
-use Rattle.adapter.specs.Rings.{ring_of}
-use Rattle.adapter.specs.World.{World}
+use Rattle.adapter_model.specs.Rings.{ring_of}
+use Rattle.adapter_model.specs.World.{World}
 use Rattle.bus.specs.Law.{CountsArrivals, MovesByTicks, Steady}
 use Rattle.bus.specs.Pasts.{Past}
 use Rattle.bus.proofs.Lists.{all-none}

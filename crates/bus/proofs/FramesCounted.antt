@@ -7,9 +7,9 @@ use Rattle.descriptors.specs.RingLaws.{length-slots_from}
 use Rattle.tx_engine.specs.Fetching.{frame_at}
 use Rattle.tx_engine.specs.ToSend.{to_send}
 use Rattle.tx_engine.specs.Transmitter.{Queued}
-use Rattle.adapter.specs.HostFrames.{frames_to_send}
-use Rattle.adapter.specs.Slots.{buffered, offered, outstanding, written_back_slots}
-use Rattle.adapter.specs.World.{transmit_ring}
+use Rattle.adapter_model.specs.HostFrames.{frames_to_send}
+use Rattle.adapter_model.specs.Slots.{buffered, offered, outstanding, written_back_slots}
+use Rattle.adapter_model.specs.World.{transmit_ring}
 use Rattle.bus.specs.TransmitSteps.{SlotsHaveFrames}
 use Rattle.bus.proofs.Places.{outstanding-known}
 

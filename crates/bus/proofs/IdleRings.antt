@@ -16,20 +16,20 @@ use Rattle.rx_engine.specs.Pieces.{Piece, begun_of}
 use Rattle.tx_engine.specs.Fetching.{fetched, frame_at}
 use Rattle.rx_engine.specs.Receiver.{Receiver}
 use Rattle.tx_engine.specs.Transmitter.{Queued, Transmitter}
-use Rattle.adapter.specs.declared.register.Register.{Register}
-use Rattle.adapter.specs.declared.ring.RingRegisters.{RingRegisters}
-use Rattle.adapter.specs.Registers.{after_reset, by_row, is_reset, left_by_write, write_of, after_read}
-use Rattle.adapter.specs.Rings.{ring_of}
-use Rattle.adapter.specs.State.{AdapterState}
-use Rattle.adapter.specs.Table.{register_at, row_of}
-use Rattle.adapter.specs.HostAreas.{areas, buffer_of, data_of, ring_area, work_areas}
-use Rattle.adapter.specs.Slots.{buffered, done_slots, finished, slots_in_work, is_done, IsDealt, offered, outstanding, slot_of_work}
-use Rattle.adapter.specs.HostFrames.{finished_pieces, named, piece_in}
+use Rattle.adapter_model.specs.declared.register.Register.{Register}
+use Rattle.adapter_model.specs.declared.ring.RingRegisters.{RingRegisters}
+use Rattle.adapter_model.specs.Registers.{after_reset, by_row, is_reset, left_by_write, write_of, after_read}
+use Rattle.adapter_model.specs.Rings.{ring_of}
+use Rattle.adapter_model.specs.State.{AdapterState}
+use Rattle.adapter_model.specs.Table.{register_at, row_of}
+use Rattle.adapter_model.specs.HostAreas.{areas, buffer_of, data_of, ring_area, work_areas}
+use Rattle.adapter_model.specs.Slots.{buffered, done_slots, finished, slots_in_work, is_done, IsDealt, offered, outstanding, slot_of_work}
+use Rattle.adapter_model.specs.HostFrames.{finished_pieces, named, piece_in}
 use Rattle.bus.specs.Law.{OnlyHeadMoves}
 use Rattle.bus.specs.IdleRings.{HappeningsKeepIdle, IdleAfterPowerOn, IdleAfterReset, IdleRingsAreSound, IsIdle, OtherWritesKeepIdle}
 use Rattle.bus.specs.IdleRings.{ReadsKeepIdle, StoresKeepIdle, WritesKeepIdle, moved_bytes}
-use Rattle.adapter.specs.Conditions.{Reports, Sound}
-use Rattle.adapter.specs.World.{receive_ring, transmit_ring, World, world_after_write}
+use Rattle.adapter_model.specs.Conditions.{Reports, Sound}
+use Rattle.adapter_model.specs.World.{receive_ring, transmit_ring, World, world_after_write}
 use Rattle.bus.proofs.Lists.{all-head, all-left, all-none, all-weaker, append-empty, map-empty, pairs-head, pairs-none}
 use Rattle.bus.proofs.TxPutSteps.{areas-same}
 use Rattle.bus.proofs.Rings.{offered-head}

@@ -10,8 +10,8 @@ use Rattle.dma_memory.specs.Layout.{ReceiveBuffer, ReceiveRing, TransmitRing, ar
 use Rattle.dma_memory.specs.LayoutLaws.{place-below_size, places-apart}
 use Rattle.descriptors.specs.Ring.{address_of}
 use Rattle.descriptors.specs.RingLaws.{place}
-use Rattle.adapter.specs.HostAreas.{ring_area}
-use Rattle.adapter.specs.World.{World, receive_ring, world_after_store}
+use Rattle.adapter_model.specs.HostAreas.{ring_area}
+use Rattle.adapter_model.specs.World.{World, receive_ring, world_after_store}
 use Rattle.bus.proofs.Lists.{all-none}
 use Rattle.bus.proofs.Rings.{outstanding-inside}
 use Rattle.bus.specs.Pasts.{nothing}

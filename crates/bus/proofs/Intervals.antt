@@ -6,8 +6,8 @@ use Rattle.std.proofs.lemmas.Bool.{cases_lt}
 use Rattle.std.proofs.lemmas.List.{append-nil, nil_from_length}
 use Rattle.registers.specs.Bits.{HasBit}
 use Rattle.registers.specs.Counting.{greatest_count}
-use Rattle.adapter.specs.HostFrames.{frames_held, frames_to_send}
-use Rattle.adapter.specs.World.{World}
+use Rattle.adapter_model.specs.HostFrames.{frames_held, frames_to_send}
+use Rattle.adapter_model.specs.World.{World}
 use Rattle.bus.specs.Pasts.{Past, joined, nothing}
 use Rattle.bus.specs.DriverState.{DriverState}
 use Rattle.bus.specs.Calls.{FlowsTo, GoesTo, HasNoForgottenWork, SumsMisses, driver_did, driver_in, frames_ended}

@@ -3,15 +3,15 @@ use Rattle.std.proofs.Common.{◌≡◌, ℕ, List, sym, ap, subst}
 use Rattle.std.specs.List.{All}
 use Rattle.dma_memory.specs.Areas.{AreApart, Area, area_at}
 use Rattle.descriptors.specs.declared.tx_desc.TxDesc.{TxDesc}
-use Rattle.adapter.specs.Rings.{ring_of}
-use Rattle.adapter.specs.declared.ring.RingRegisters.{RingRegisters}
+use Rattle.adapter_model.specs.Rings.{ring_of}
+use Rattle.adapter_model.specs.declared.ring.RingRegisters.{RingRegisters}
 use Rattle.rx_engine.specs.Descriptors.{named_address}
-use Rattle.adapter.specs.HostAreas.{data_of, ring_area}
-use Rattle.adapter.specs.Conditions.{Sound}
+use Rattle.adapter_model.specs.HostAreas.{data_of, ring_area}
+use Rattle.adapter_model.specs.Conditions.{Sound}
 use Rattle.bus.specs.Law.{Happens}
 use Rattle.bus.specs.Pasts.{Past}
 use Rattle.bus.specs.SpareMemory.{AreasStayApart, IsSpare}
-use Rattle.adapter.specs.World.{receive_ring, transmit_ring, World}
+use Rattle.adapter_model.specs.World.{receive_ring, transmit_ring, World}
 use Rattle.bus.proofs.DriversSlots.{drivers_side_stays}
 use Rattle.bus.proofs.Rings.{each-outstanding}
 use Rattle.bus.proofs.SpareMemory.{spare-apart, spare-foreign}

@@ -2,15 +2,15 @@
 use Rattle.std.proofs.Common.{◌≡◌, ◌<◌, ⊎_elim, ℕ, Option, sym, ap, subst, ◌∙◌, arith, bit_and}
 use Rattle.std.proofs.lemmas.Nat.{and_mask}
 use Rattle.descriptors.specs.Ring.{HasValidIndices, count_of}
-use Rattle.adapter.specs.declared.register.Register.{Register}
-use Rattle.adapter.specs.declared.register.Register.TheVariants.{Receive, Transmit}
-use Rattle.adapter.specs.declared.register.RingRegister.TheVariants.{Tail}
-use Rattle.adapter.specs.declared.ring.RingRegisters.{RingRegisters}
-use Rattle.adapter.specs.KnownRing.{KnowsRing}
-use Rattle.adapter.specs.Registers.{left_by_write}
-use Rattle.adapter.specs.Rings.{ring_of}
-use Rattle.adapter.specs.TableLaws.{register_at-there}
-use Rattle.adapter.specs.World.{receive_ring, transmit_ring, World}
+use Rattle.adapter_model.specs.declared.register.Register.{Register}
+use Rattle.adapter_model.specs.declared.register.Register.TheVariants.{Receive, Transmit}
+use Rattle.adapter_model.specs.declared.register.RingRegister.TheVariants.{Tail}
+use Rattle.adapter_model.specs.declared.ring.RingRegisters.{RingRegisters}
+use Rattle.adapter_model.specs.KnownRing.{KnowsRing}
+use Rattle.adapter_model.specs.Registers.{left_by_write}
+use Rattle.adapter_model.specs.Rings.{ring_of}
+use Rattle.adapter_model.specs.TableLaws.{register_at-there}
+use Rattle.adapter_model.specs.World.{receive_ring, transmit_ring, World}
 use Rattle.bus.specs.Law.{OnlyHeadMoves}
 use Rattle.bus.specs.KnownRings.{KnownRingStays, ReceiveTailMoves, TransmitTailMoves}
 

@@ -1,13 +1,13 @@
 -- Ticks and commands don't change the setting of the PHY's link.
 use Rattle.std.proofs.Common.{◌≡◌, ℕ, zero, suc, Bool, true, false, cond, Option, Some, None, refl, ◌∙◌}
 use Rattle.std.specs.Fn.{iterate}
-use Rattle.registers.specs.declared.mdic.Operation.{Operation}
-use Rattle.registers.specs.declared.mdic.Operation.TheVariants as operation
-use Rattle.registers.specs.Mdic.{data_bits, has_work, mdic_after_tick, phy_after_tick, phy_ended, reaches_phy, regadd}
-use Rattle.registers.specs.Phy.{PhyState, after_tick, counted_down, is_complete, is_counting, link_is_up}
-use Rattle.registers.specs.Phy as state
-use Rattle.registers.specs.PhyHistory as phy
-use Rattle.registers.specs.PhyLaws.{link-after_event}
+use Rattle.mdic_phy.specs.declared.mdic.Operation.{Operation}
+use Rattle.mdic_phy.specs.declared.mdic.Operation.TheVariants as operation
+use Rattle.mdic_phy.specs.Mdic.{data_bits, has_work, mdic_after_tick, phy_after_tick, phy_ended, reaches_phy, regadd}
+use Rattle.mdic_phy.specs.Phy.{PhyState, after_tick, counted_down, is_complete, is_counting, link_is_up}
+use Rattle.mdic_phy.specs.Phy as state
+use Rattle.mdic_phy.specs.PhyHistory as phy
+use Rattle.mdic_phy.specs.PhyLaws.{link-after_event}
 use Rattle.bus.specs.Law.{Management, phy_ticked}
 
 pub link-ended : (pending : Option Operation) (value : ℕ) (s : PhyState) → (phy_ended pending value s).link ≡ s.link

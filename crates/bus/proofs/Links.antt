@@ -3,17 +3,17 @@ use Rattle.std.proofs.Common.{◌≡◌, [], ℕ, zero, suc, Bool, true, false, 
 use Rattle.std.specs.Fn.{iterate}
 use Rattle.std.specs.List.{All}
 use Rattle.std.proofs.lemmas.Bool.{false≢true}
-use Rattle.registers.specs.declared.mdic.Operation.{Operation}
-use Rattle.registers.specs.declared.phy.Negotiation.{Negotiation}
-use Rattle.registers.specs.declared.phy.Negotiation.TheVariants.{NotStarted, Running, Complete}
-use Rattle.registers.specs.Mdic.{has_work, mdic_after_tick, phy_after_tick, phy_ended}
-use Rattle.registers.specs.Phy.{after_tick, counted_down, is_complete, link_is_up}
-use Rattle.adapter.specs.Registers.{after_read, after_write, left_by_write, write_of}
-use Rattle.adapter.specs.State.{AdapterState}
-use Rattle.adapter.specs.Table.{register_at}
-use Rattle.adapter.specs.World.{World}
-use Rattle.adapter.specs.declared.register.Register.{Register}
-use Rattle.adapter.specs.declared.register.Register.TheVariants.{Ctrl, Mdic}
+use Rattle.mdic_phy.specs.declared.mdic.Operation.{Operation}
+use Rattle.mdic_phy.specs.declared.phy.Negotiation.{Negotiation}
+use Rattle.mdic_phy.specs.declared.phy.Negotiation.TheVariants.{NotStarted, Running, Complete}
+use Rattle.mdic_phy.specs.Mdic.{has_work, mdic_after_tick, phy_after_tick, phy_ended}
+use Rattle.mdic_phy.specs.Phy.{after_tick, counted_down, is_complete, link_is_up}
+use Rattle.adapter_model.specs.Registers.{after_read, after_write, left_by_write, write_of}
+use Rattle.adapter_model.specs.State.{AdapterState}
+use Rattle.adapter_model.specs.Table.{register_at}
+use Rattle.adapter_model.specs.World.{World}
+use Rattle.adapter_model.specs.declared.register.Register.{Register}
+use Rattle.adapter_model.specs.declared.register.Register.TheVariants.{Ctrl, Mdic}
 use Rattle.bus.specs.Law.{Management, management_of, phy_ticked}
 use Rattle.bus.specs.Link.{AccessesKeepLink, HappeningsKeepLink, HasLink, IsNotOfPhy, LeavesPhy, LinkIntervalsJoin}
 use Rattle.bus.specs.Settings.{Write, writes_in}

@@ -2,9 +2,9 @@
 use Rattle.std.proofs.Common.{◌≡◌, ◌++◌, ◌∷◌, [], All, true, refl, ◌∙◌, arith}
 use Rattle.std.specs.Bool.{⊤}
 use Rattle.std.proofs.lemmas.List.Elements.{All-append, All-cons}
-use Rattle.adapter.specs.State.{IsAdapter}
-use Rattle.adapter.specs.World.{World}
-use Rattle.adapter.specs.declared.step.StepKind.TheVariants.{EepromTick, PhyTick}
+use Rattle.adapter_model.specs.State.{IsAdapter}
+use Rattle.adapter_model.specs.World.{World}
+use Rattle.adapter_model.specs.declared.step.StepKind.TheVariants.{EepromTick, PhyTick}
 use Rattle.bus.specs.BusMembers.{KeepsProperties}
 use Rattle.bus.specs.Law.{Acts, view}
 use Rattle.bus.specs.LivelyBuses.{IsPrepared, IsQuietEvent, IsSameMachine, Lives, both_ticks, machine_bytes, machine_world}

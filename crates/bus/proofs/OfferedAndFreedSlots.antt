@@ -20,13 +20,13 @@ use Rattle.descriptors.specs.TxDesc.{tx_desc_of}
 use Rattle.descriptors.specs.TxFields.{command_bits, command_of, sent_bits, sent_of}
 use Rattle.descriptors.specs.declared.tx_desc.TxDesc.{TxDesc}
 use Rattle.tx_engine.specs.Fetching.{IsTransmittable, transmit_descriptor_at, fetched, frame_at}
-use Rattle.adapter.specs.Conditions.{Sound}
-use Rattle.adapter.specs.HostAreas.{areas, data_of}
+use Rattle.adapter_model.specs.Conditions.{Sound}
+use Rattle.adapter_model.specs.HostAreas.{areas, data_of}
 use Rattle.rx_engine.specs.Pieces.{frames_of}
-use Rattle.adapter.specs.HostFrames.{frames_held, frames_to_send}
-use Rattle.adapter.specs.Running.{CanTransmit}
-use Rattle.adapter.specs.Slots.{is_done, outstanding, written_back_slots}
-use Rattle.adapter.specs.World.{World, transmit_ring}
+use Rattle.adapter_model.specs.HostFrames.{frames_held, frames_to_send}
+use Rattle.adapter_model.specs.Running.{CanTransmit}
+use Rattle.adapter_model.specs.Slots.{is_done, outstanding, written_back_slots}
+use Rattle.adapter_model.specs.World.{World, transmit_ring}
 use Rattle.bus.proofs.Lists.{all-none, all-tail}
 use Rattle.bus.proofs.SlotOffers.{frames_can_be_offered}
 use Rattle.bus.proofs.TakingSlots.{written_slots_can_be_freed}

@@ -7,7 +7,7 @@ use Rattle.rx_engine.specs.Held.{piece_of}
 use Rattle.rx_engine.specs.Pieces.{Piece, IsCut, IsLast, IsLastSize, begun_from, frames_from}
 use Rattle.rx_engine.specs.Pieces.Piece.{Last, Part}
 use Rattle.bus.specs.LargeBuffers.{LargeBuffersTakeFrames}
-use Rattle.adapter.specs.HostFrames.{pieces_in_slots}
+use Rattle.adapter_model.specs.HostFrames.{pieces_in_slots}
 use Rattle.bus.proofs.Lists.{all-head, all-none, all-tail}
 
 pub last-ends : (ends : Bool) (bytes : List ℕ) → IsLast (piece_of ends bytes) → ends ≡ true

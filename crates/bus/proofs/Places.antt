@@ -7,9 +7,9 @@ use Rattle.std.proofs.Math.Nat.{add-mod_right, mod-add-mod, mod-eq-sub-mod, mod-
 use Rattle.descriptors.specs.declared.ring.Ring.{Ring}
 use Rattle.descriptors.specs.Ring.{address_of, count_of, distance_of, offered_places, slots_from}
 use Rattle.descriptors.specs.RingLaws.{distance-around, distance-forward, next-below, place}
-use Rattle.adapter.specs.Slots.{outstanding}
+use Rattle.adapter_model.specs.Slots.{outstanding}
 use Rattle.bus.specs.DriversSlots.{IsDriversSlot}
-use Rattle.adapter.specs.KnownRing.{KnowsRing}
+use Rattle.adapter_model.specs.KnownRing.{KnowsRing}
 use Rattle.bus.proofs.Rings.{slots-other}
 
 pub place-add : (n from i j : ℕ) → place n from (i + j) ≡ place n (place n from i) j

@@ -13,12 +13,12 @@ use Rattle.descriptors.specs.RingLaws.{place}
 use Rattle.rx_engine.specs.Descriptors.{named_address}
 use Rattle.tx_engine.specs.ToSend.{to_send}
 use Rattle.tx_engine.specs.Transmitter.{Queued}
-use Rattle.adapter.specs.HostAreas.{data_of}
-use Rattle.adapter.specs.HostFrames.{frames_to_send}
-use Rattle.adapter.specs.Rings.{ring_of}
-use Rattle.adapter.specs.Slots.{offered, outstanding}
-use Rattle.adapter.specs.World.{World, receive_ring, transmit_ring}
-use Rattle.adapter.specs.declared.ring.RingRegisters.{RingRegisters}
+use Rattle.adapter_model.specs.HostAreas.{data_of}
+use Rattle.adapter_model.specs.HostFrames.{frames_to_send}
+use Rattle.adapter_model.specs.Rings.{ring_of}
+use Rattle.adapter_model.specs.Slots.{offered, outstanding}
+use Rattle.adapter_model.specs.World.{World, receive_ring, transmit_ring}
+use Rattle.adapter_model.specs.declared.ring.RingRegisters.{RingRegisters}
 use Rattle.bus.specs.Law.{Happens, OnlyHeadMoves}
 use Rattle.bus.specs.DriversSlots.{IsDriversSlot}
 use Rattle.bus.specs.Pasts.{Past}

@@ -16,8 +16,8 @@ use Rattle.descriptors.specs.RxDesc.{rx_desc_of}
 use Rattle.descriptors.specs.RxStatus.{dd, status_bits}
 use Rattle.rx_engine.specs.Pieces.{Piece, parts}
 use Rattle.rx_engine.specs.Pieces.Piece.{Last}
-use Rattle.adapter.specs.HostFrames.{finished_pieces}
-use Rattle.adapter.specs.World.{World, world_after_store, world_after_write}
+use Rattle.adapter_model.specs.HostFrames.{finished_pieces}
+use Rattle.adapter_model.specs.World.{World, world_after_store, world_after_write}
 use Rattle.bus.specs.RegisterSetting.{with_tail}
 use Rattle.bus.specs.Keeping.{view_of}
 use Rattle.bus.specs.Law.{Acts}

@@ -13,10 +13,10 @@ use Rattle.dma_memory.specs.Owners.{copies}
 use Rattle.dma_memory.specs.OwnersLaws.{copies-cons, copies-itself, no_second_from_one, once_from_no_second}
 use Rattle.rx_engine.specs.Descriptors.{named_address}
 use Rattle.rx_engine.specs.declared.engine.Work.{Work}
-use Rattle.adapter.specs.HostAreas.{areas, buffer_size, data_of, receives, ring_area, work_areas}
-use Rattle.adapter.specs.HostFrames.{named}
-use Rattle.adapter.specs.Slots.{finished, slots_in_work, offered, outstanding, slot_of_work}
-use Rattle.adapter.specs.World.{World, receive_ring, transmit_ring}
+use Rattle.adapter_model.specs.HostAreas.{areas, buffer_size, data_of, receives, ring_area, work_areas}
+use Rattle.adapter_model.specs.HostFrames.{named}
+use Rattle.adapter_model.specs.Slots.{finished, slots_in_work, offered, outstanding, slot_of_work}
+use Rattle.adapter_model.specs.World.{World, receive_ring, transmit_ring}
 use Rattle.bus.proofs.IdleRings.{first-two, offered-none}
 use Rattle.bus.proofs.RegisterSetting.{receiver_can_be_set}
 use Rattle.bus.proofs.Lists.{all-head, all-tail, pairs-head, pairs-none}
@@ -31,7 +31,7 @@ use Rattle.bus.proofs.EndedFrames.{none-cut}
 use Rattle.bus.proofs.AlikeWorlds.{ready-set}
 use Rattle.registers.specs.Bits.{HasBit}
 use Rattle.registers.specs.Places.{rctl_bsex, rctl_en}
-use Rattle.adapter.specs.Conditions.{AreCut}
+use Rattle.adapter_model.specs.Conditions.{AreCut}
 use Rattle.bus.specs.Calls.{GoesTo, driver_did, driver_in}
 use Rattle.bus.specs.Pasts.{nothing}
 

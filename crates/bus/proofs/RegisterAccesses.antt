@@ -1,11 +1,11 @@
 -- ICR and MPC are read over a bus.
 use Rattle.std.proofs.Common.{Bool, inl, ⊎_elim, ◌≡◌, ◌<◌, ◌^◌, ◌∷◌, [], ℕ, refl, sym, ap, subst, ◌∙◌}
 use Rattle.registers.specs.Bits.{HasBit}
-use Rattle.adapter.specs.Registers.{answer_at}
+use Rattle.adapter_model.specs.Registers.{answer_at}
 use Rattle.rx_engine.specs.Pieces.{frames_of}
-use Rattle.adapter.specs.HostFrames.{finished_pieces}
-use Rattle.adapter.specs.Table.{register_at}
-use Rattle.adapter.specs.World.{World, world_after_read}
+use Rattle.adapter_model.specs.HostFrames.{finished_pieces}
+use Rattle.adapter_model.specs.Table.{register_at}
+use Rattle.adapter_model.specs.World.{World, world_after_read}
 use Rattle.bus.proofs.RegisterSetting.{reads_leave_frames}
 use Rattle.bus.specs.Keeping.{view_of}
 use Rattle.bus.specs.Law.{Acts}

@@ -6,14 +6,14 @@ use Rattle.std.proofs.lemmas.Bool.{and_parts, lt-ltb, ltb-true}
 use Rattle.std.proofs.lemmas.List.{append-nil}
 use Rattle.registers.specs.Bits.{HasBit}
 use Rattle.registers.specs.Counting.{greatest_count}
-use Rattle.adapter.specs.HostFrames.{frames_held, frames_to_send}
-use Rattle.adapter.specs.Registers.{answer_at, left_by_read, read_of, after_read}
+use Rattle.adapter_model.specs.HostFrames.{frames_held, frames_to_send}
+use Rattle.adapter_model.specs.Registers.{answer_at, left_by_read, read_of, after_read}
 use Rattle.rx_engine.specs.Pieces.{frames_of}
-use Rattle.adapter.specs.Table.{register_at, row_of}
-use Rattle.adapter.specs.TableLaws.{register_at-only}
-use Rattle.adapter.specs.World.{World, world_after_read}
-use Rattle.adapter.specs.declared.register.Register.{Register}
-use Rattle.adapter.specs.declared.register.Register.TheVariants.{Icr, Mpc, Gprc, Gptc, Rnbc}
+use Rattle.adapter_model.specs.Table.{register_at, row_of}
+use Rattle.adapter_model.specs.TableLaws.{register_at-only}
+use Rattle.adapter_model.specs.World.{World, world_after_read}
+use Rattle.adapter_model.specs.declared.register.Register.{Register}
+use Rattle.adapter_model.specs.declared.register.Register.TheVariants.{Icr, Mpc, Gprc, Gptc, Rnbc}
 use Rattle.bus.proofs.RegisterSetting.{reads_leave_frames}
 use Rattle.bus.specs.Pasts.{nothing}
 use Rattle.bus.specs.DriverState.{DriverState}
@@ -23,7 +23,7 @@ use Rattle.bus.specs.ReadyDrivers.{ReadyWith}
 use Rattle.bus.proofs.Intervals.{misses-stay}
 use Rattle.bus.proofs.AlikeWorlds.{SameParts, ready-left, same-others, same-driver}
 use Rattle.bus.proofs.RegisterWrites.{read-counts, with_counts_of}
-use Rattle.adapter.specs.State.{AdapterState}
+use Rattle.adapter_model.specs.State.{AdapterState}
 
 -- What no read changes: the parts in `SameParts`, and the mask.
 record Read (a b : World) : Type 0 where

@@ -8,27 +8,27 @@ use Rattle.std.proofs.lemmas.List.{append-nil}
 use Rattle.std.proofs.Math.Nat.{mod-add-mod, mod-eq_of_lt}
 use Rattle.descriptors.specs.Ring.{address_of, count_of, next_of, slots_from}
 use Rattle.descriptors.specs.RingLaws.{next-below}
-use Rattle.registers.specs.declared.phy.Link.TheVariants.{Never}
+use Rattle.mdic_phy.specs.declared.phy.Link.TheVariants.{Never}
 use Rattle.registers.specs.Bits.{HasBit, field}
 use Rattle.registers.specs.Places.{rctl_en, tctl_psp}
 use Rattle.registers.specs.ReceiveControl.{buffer_size_of}
-use Rattle.rx_engine.specs.Registers.{FilterRegisters}
+use Rattle.rx_filter.specs.Registers.{FilterRegisters}
 use Rattle.tx_engine.specs.Fetching.{fetched}
 use Rattle.tx_engine.specs.Transmitter.{Queued}
-use Rattle.adapter.specs.Registers.{after_reset, by_row, is_reset, new_adapter, after_read}
-use Rattle.adapter.specs.HostAreas.{areas}
-use Rattle.adapter.specs.Rings.{ring_of}
-use Rattle.adapter.specs.State.{AdapterState}
-use Rattle.adapter.specs.Table.{row_of}
-use Rattle.adapter.specs.Slots.{offered, outstanding}
+use Rattle.adapter_model.specs.Registers.{after_reset, by_row, is_reset, new_adapter, after_read}
+use Rattle.adapter_model.specs.HostAreas.{areas}
+use Rattle.adapter_model.specs.Rings.{ring_of}
+use Rattle.adapter_model.specs.State.{AdapterState}
+use Rattle.adapter_model.specs.Table.{row_of}
+use Rattle.adapter_model.specs.Slots.{offered, outstanding}
 use Rattle.bus.specs.RegisterSetting.{CanOfferMany, ManySlotsCanBeOffered, OfferedMany, OtherWritesLeaveFrames, ReadsLeaveFrames}
 use Rattle.bus.specs.RegisterSetting.{ReceiverCanBeSet, ReceiverSet, TransmitRingCanBeSet, TransmitterCanBeSet, with_receive_control}
 use Rattle.bus.specs.RegisterSetting.{with_tail, with_transmit_control}
-use Rattle.adapter.specs.Conditions.{Reports, Sound}
+use Rattle.adapter_model.specs.Conditions.{Reports, Sound}
 use Rattle.bus.specs.SlotOffers.{offering}
 use Rattle.bus.specs.DriversStores.{LeavesFrames, SameFrames}
-use Rattle.adapter.specs.Running.{CanTransmit}
-use Rattle.adapter.specs.World.{receive_ring, World}
+use Rattle.adapter_model.specs.Running.{CanTransmit}
+use Rattle.adapter_model.specs.World.{receive_ring, World}
 use Rattle.bus.proofs.IdleRings.{dealt-idle, offered-none, outstanding-none, none-to_send}
 use Rattle.bus.proofs.Lists.{all-none}
 use Rattle.bus.proofs.SlotOffers.{slots_can_be_offered}

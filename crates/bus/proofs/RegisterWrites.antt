@@ -1,10 +1,10 @@
 -- What a read of a register doesn't change in the adapter, and what a write doesn't change that isn't a reset.
 use Rattle.std.proofs.Common.{◌≡◌, None, Option, Some, ℕ, refl}
-use Rattle.adapter.specs.declared.register.Register.{Register}
-use Rattle.adapter.specs.declared.register.Register.TheVariants.{Gprc, Gptc, Icr, Mpc, Rctl, Receive, Rnbc, Tctl, Transmit}
-use Rattle.adapter.specs.Registers.{after_read, by_row, left_by_read, read_of}
-use Rattle.adapter.specs.State.{AdapterState}
-use Rattle.adapter.specs.Table.{register_at, row_of}
+use Rattle.adapter_model.specs.declared.register.Register.{Register}
+use Rattle.adapter_model.specs.declared.register.Register.TheVariants.{Gprc, Gptc, Icr, Mpc, Rctl, Receive, Rnbc, Tctl, Transmit}
+use Rattle.adapter_model.specs.Registers.{after_read, by_row, left_by_read, read_of}
+use Rattle.adapter_model.specs.State.{AdapterState}
+use Rattle.adapter_model.specs.Table.{register_at, row_of}
 use Rattle.bus.specs.IdleRings.{IsOfRing}
 use Rattle.bus.specs.RegisterSetting.{IsOfConditions}
 

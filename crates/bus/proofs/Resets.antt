@@ -15,11 +15,11 @@ use Rattle.dma_memory.specs.Layout.{receive_buffer_bytes, size_of}
 use Rattle.dma_memory.specs.OwnersLaws.{copies-append}
 use Rattle.rx_engine.specs.Receiver.{Receiver}
 use Rattle.tx_engine.specs.Transmitter.{Queued, Transmitter}
-use Rattle.adapter.specs.HostAreas.{IsForeign, areas, buffer_of, data_of, offered_buffers, ring_area}
-use Rattle.adapter.specs.HostAreas.{work_areas, writable}
-use Rattle.adapter.specs.HostFrames.{named}
-use Rattle.adapter.specs.Slots.{buffered, finished, slots_in_work, offered, slot_of_work}
-use Rattle.adapter.specs.World.{World, receive_ring, transmit_ring}
+use Rattle.adapter_model.specs.HostAreas.{IsForeign, areas, buffer_of, data_of, offered_buffers, ring_area}
+use Rattle.adapter_model.specs.HostAreas.{work_areas, writable}
+use Rattle.adapter_model.specs.HostFrames.{named}
+use Rattle.adapter_model.specs.Slots.{buffered, finished, slots_in_work, offered, slot_of_work}
+use Rattle.adapter_model.specs.World.{World, receive_ring, transmit_ring}
 use Rattle.bus.proofs.AdaptersAtRest.{happenings_keep_rest, rest_after_reset, rest_is_idle}
 use Rattle.bus.proofs.IdleRings.{idle_rings_are_sound, offered-none}
 use Rattle.bus.proofs.Lists.{all-left, all-none, pairs-head, pairs-none, pairs-tail}

@@ -11,8 +11,8 @@ use Rattle.dma_memory.specs.AreaLaws.{apart-sym}
 use Rattle.descriptors.specs.declared.ring.Ring.{Ring}
 use Rattle.descriptors.specs.Ring.{HasValidIndices, address_of, count_of, distance_of, next_of, offered_places, slots_from}
 use Rattle.descriptors.specs.RingLaws.{distance-around, distance-forward, distance-step, next-below, next-inner, next-last, places-head}
-use Rattle.adapter.specs.HostAreas.{ring_area}
-use Rattle.adapter.specs.Slots.{done_slots, is_done, IsDealt, offered, outstanding}
+use Rattle.adapter_model.specs.HostAreas.{ring_area}
+use Rattle.adapter_model.specs.Slots.{done_slots, is_done, IsDealt, offered, outstanding}
 use Rattle.bus.proofs.Lists.{all-left, all-none, all-right, all-tail, pairs-before, pairs-behind, pairs-mapped, pairs-none}
 use Rattle.bus.proofs.Lists.{take_while-passes, take_while-same, take_while-split}
 

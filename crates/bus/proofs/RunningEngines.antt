@@ -12,19 +12,19 @@ use Rattle.descriptors.specs.TxDesc.{tx_desc_of}
 use Rattle.rx_engine.specs.Moving.{buffer_bytes, next_piece}
 use Rattle.rx_engine.specs.Receiver.{Receiver, oldest}
 use Rattle.tx_engine.specs.Fetching.{IsTransmittable}
-use Rattle.adapter.specs.Receiving.{CanMovePiece, HasFrameAndDescriptor, piece_size}
-use Rattle.adapter.specs.Steps.{Answers, ticked}
-use Rattle.adapter.specs.Transmitting.{CanTake, HasNothingToTake}
-use Rattle.adapter.specs.declared.step.StepKind.{StepKind}
-use Rattle.adapter.specs.declared.step.StepKind.TheVariants.{TxTake, TxPut, RxData, RxDone, EepromTick, PhyTick}
-use Rattle.adapter.specs.Outcomes.{FrameOutcome}
-use Rattle.adapter.specs.declared.outcome.Outcome.TheVariants.{Fault}
+use Rattle.adapter_model.specs.Receiving.{CanMovePiece, HasFrameAndDescriptor, piece_size}
+use Rattle.adapter_model.specs.Steps.{Answers, ticked}
+use Rattle.adapter_model.specs.Transmitting.{CanTake, HasNothingToTake}
+use Rattle.adapter_model.specs.declared.step.StepKind.{StepKind}
+use Rattle.adapter_model.specs.declared.step.StepKind.TheVariants.{TxTake, TxPut, RxData, RxDone, EepromTick, PhyTick}
+use Rattle.adapter_model.specs.Outcomes.{FrameOutcome}
+use Rattle.adapter_model.specs.declared.outcome.Outcome.TheVariants.{Fault}
 use Rattle.bus.specs.Faults.{FaultsNeverCome}
-use Rattle.adapter.specs.HostAreas.{buffer_of, receives, ring_area}
-use Rattle.adapter.specs.Slots.{buffered, slots_in_work, offered, IsDealt}
-use Rattle.adapter.specs.Conditions.{Sound}
-use Rattle.adapter.specs.Running.{CanRun, CanTransmit}
-use Rattle.adapter.specs.World.{receive_ring, transmit_ring, World}
+use Rattle.adapter_model.specs.HostAreas.{buffer_of, receives, ring_area}
+use Rattle.adapter_model.specs.Slots.{buffered, slots_in_work, offered, IsDealt}
+use Rattle.adapter_model.specs.Conditions.{Sound}
+use Rattle.adapter_model.specs.Running.{CanRun, CanTransmit}
+use Rattle.adapter_model.specs.World.{receive_ring, transmit_ring, World}
 use Rattle.bus.proofs.EachArea.{of-areas}
 use Rattle.bus.proofs.WrittenAreas.{IsSame}
 use Rattle.bus.proofs.Lists.{all-head, all-right}

@@ -18,11 +18,11 @@ use Rattle.rx_engine.specs.Held.{in_slots, piece_of}
 use Rattle.rx_engine.specs.Pieces.{IsCut, Piece, begun_of, frames_from, frames_of, parts}
 use Rattle.rx_engine.specs.Pieces.Piece.{Last, Part}
 use Rattle.rx_engine.specs.PieceLaws.{begun-append, begun-parts, frames-append, frames-parts}
-use Rattle.adapter.specs.Conditions.{FitBuffers}
-use Rattle.adapter.specs.HostAreas.{IsForeign, areas}
-use Rattle.adapter.specs.HostFrames.{finished_pieces, named, piece_in, pieces_in_slots}
-use Rattle.adapter.specs.Slots.{finished, slots_in_work, IsDealt, outstanding}
-use Rattle.adapter.specs.World.{World, receive_ring}
+use Rattle.adapter_model.specs.Conditions.{FitBuffers}
+use Rattle.adapter_model.specs.HostAreas.{IsForeign, areas}
+use Rattle.adapter_model.specs.HostFrames.{finished_pieces, named, piece_in, pieces_in_slots}
+use Rattle.adapter_model.specs.Slots.{finished, slots_in_work, IsDealt, outstanding}
+use Rattle.adapter_model.specs.World.{World, receive_ring}
 use Rattle.bus.specs.DriversSlots.{IsDriversSlot, frame_named}
 use Rattle.bus.specs.RunsOfSlots.{RunsCanBeTaken, after_run, places_of_run}
 use Rattle.bus.proofs.DriversSlots.{foreign-named}

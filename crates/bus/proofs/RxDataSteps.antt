@@ -20,22 +20,22 @@ use Rattle.rx_engine.specs.Moving.{is_half_offered, next_piece, work_at}
 use Rattle.rx_engine.specs.declared.data.Data.TheVariants as answers
 use Rattle.rx_engine.specs.declared.engine.Work.{Work}
 use Rattle.tx_engine.specs.Transmitter.{Queued}
-use Rattle.adapter.specs.Receiving.{CanMovePiece, DataAnswers, HasFrameAndDescriptor, causes_of_moving, is_last_piece, piece_size}
-use Rattle.adapter.specs.Rings.{ring_of}
-use Rattle.adapter.specs.Transmitting.{moved_on}
-use Rattle.adapter.specs.declared.step.StepKind.TheVariants.{RxData}
-use Rattle.adapter.specs.Outcomes.{FrameOutcome}
-use Rattle.adapter.specs.declared.outcome.Outcome.TheVariants.{Part, Moved, Nothing, Fault}
-use Rattle.adapter.specs.HostAreas.{areas, buffer_of, buffer_size, data_of, offered_buffers, receives, reported_half}
-use Rattle.adapter.specs.HostAreas.{ring_area, status_byte, work_areas}
-use Rattle.adapter.specs.Slots.{buffered, done_slots, finished, is_done, IsDealt, offered, outstanding}
-use Rattle.adapter.specs.HostFrames.{finished_pieces, frames_held, named, piece_in, pieces_in_slots}
-use Rattle.adapter.specs.Conditions.{AreCut, Reports, Sound}
+use Rattle.adapter_model.specs.Receiving.{CanMovePiece, DataAnswers, HasFrameAndDescriptor, causes_of_moving, is_last_piece, piece_size}
+use Rattle.adapter_model.specs.Rings.{ring_of}
+use Rattle.adapter_model.specs.Transmitting.{moved_on}
+use Rattle.adapter_model.specs.declared.step.StepKind.TheVariants.{RxData}
+use Rattle.adapter_model.specs.Outcomes.{FrameOutcome}
+use Rattle.adapter_model.specs.declared.outcome.Outcome.TheVariants.{Part, Moved, Nothing, Fault}
+use Rattle.adapter_model.specs.HostAreas.{areas, buffer_of, buffer_size, data_of, offered_buffers, receives, reported_half}
+use Rattle.adapter_model.specs.HostAreas.{ring_area, status_byte, work_areas}
+use Rattle.adapter_model.specs.Slots.{buffered, done_slots, finished, is_done, IsDealt, offered, outstanding}
+use Rattle.adapter_model.specs.HostFrames.{finished_pieces, frames_held, named, piece_in, pieces_in_slots}
+use Rattle.adapter_model.specs.Conditions.{AreCut, Reports, Sound}
 use Rattle.bus.specs.Law.{Between, Happens}
 use Rattle.bus.specs.Pasts.{nothing}
 use Rattle.bus.specs.StepsAndArrivals.{world_after_step}
-use Rattle.adapter.specs.State.{IsAdapter}
-use Rattle.adapter.specs.World.{receive_ring, transmit_ring, World}
+use Rattle.adapter_model.specs.State.{IsAdapter}
+use Rattle.adapter_model.specs.World.{receive_ring, transmit_ring, World}
 use Rattle.bus.proofs.Areas.{separate-same, separate-shorter}
 use Rattle.bus.proofs.Composition.{finishes-none, happens_none, puts-none}
 use Rattle.bus.proofs.EngineRegisters.{added, no-arrivals, steady_moves}

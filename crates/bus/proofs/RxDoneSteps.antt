@@ -24,21 +24,21 @@ use Rattle.rx_engine.specs.Pieces.Piece.{Part}
 use Rattle.rx_engine.specs.Laws.{descriptor_at-finished, memory_after_done-lies, written_back-finished}
 use Rattle.rx_engine.specs.declared.engine.Work.{Work}
 use Rattle.tx_engine.specs.Transmitter.{Queued}
-use Rattle.adapter.specs.Receiving.{DoneAnswers, after_done, causes_of_finishing}
-use Rattle.adapter.specs.State.{AdapterState}
-use Rattle.adapter.specs.declared.step.StepKind.TheVariants.{RxDone}
-use Rattle.adapter.specs.Outcomes.{FrameOutcome}
-use Rattle.adapter.specs.declared.outcome.Outcome.TheVariants.{Done, Nothing}
-use Rattle.adapter.specs.HostAreas.{areas, buffer_of, data_of, frame_areas, offered_buffers, receives, reported_half}
-use Rattle.adapter.specs.HostAreas.{ring_area, status_byte}
-use Rattle.adapter.specs.Slots.{buffered, done_slots, finished, slots_in_work, is_done, offered}
-use Rattle.adapter.specs.HostFrames.{finished_pieces, frames_held, named, piece_in, pieces_in_slots}
-use Rattle.adapter.specs.Conditions.{Reports, Sound}
+use Rattle.adapter_model.specs.Receiving.{DoneAnswers, after_done, causes_of_finishing}
+use Rattle.adapter_model.specs.State.{AdapterState}
+use Rattle.adapter_model.specs.declared.step.StepKind.TheVariants.{RxDone}
+use Rattle.adapter_model.specs.Outcomes.{FrameOutcome}
+use Rattle.adapter_model.specs.declared.outcome.Outcome.TheVariants.{Done, Nothing}
+use Rattle.adapter_model.specs.HostAreas.{areas, buffer_of, data_of, frame_areas, offered_buffers, receives, reported_half}
+use Rattle.adapter_model.specs.HostAreas.{ring_area, status_byte}
+use Rattle.adapter_model.specs.Slots.{buffered, done_slots, finished, slots_in_work, is_done, offered}
+use Rattle.adapter_model.specs.HostFrames.{finished_pieces, frames_held, named, piece_in, pieces_in_slots}
+use Rattle.adapter_model.specs.Conditions.{Reports, Sound}
 use Rattle.bus.specs.Law.{Between, Happens}
 use Rattle.bus.specs.Pasts.{nothing}
 use Rattle.bus.specs.StepsAndArrivals.{world_after_step}
-use Rattle.adapter.specs.State.{IsAdapter}
-use Rattle.adapter.specs.World.{receive_ring, transmit_ring, World}
+use Rattle.adapter_model.specs.State.{IsAdapter}
+use Rattle.adapter_model.specs.World.{receive_ring, transmit_ring, World}
 use Rattle.bus.proofs.Areas.{separate-same}
 use Rattle.bus.proofs.Composition.{happens_none, puts-none}
 use Rattle.bus.proofs.EngineRegisters.{added, no-arrivals, steady_moves}

@@ -15,9 +15,9 @@ use Rattle.descriptors.specs.RxStatus.{dd, status_bits}
 use Rattle.descriptors.specs.declared.rx_desc.RxDesc.{RxDesc}
 use Rattle.rx_engine.specs.Descriptors.{descriptor_at}
 use Rattle.rx_engine.specs.Pieces.{Piece}
-use Rattle.adapter.specs.HostFrames.{finished_pieces, named, piece_in}
-use Rattle.adapter.specs.Slots.{finished, slots_in_work, is_done, offered, outstanding}
-use Rattle.adapter.specs.World.{World, receive_ring}
+use Rattle.adapter_model.specs.HostFrames.{finished_pieces, named, piece_in}
+use Rattle.adapter_model.specs.Slots.{finished, slots_in_work, is_done, offered, outstanding}
+use Rattle.adapter_model.specs.World.{World, receive_ring}
 use Rattle.bus.specs.DriversSlots.{frame_named}
 use Rattle.bus.proofs.Lists.{all-head, all-right}
 use Rattle.bus.proofs.RunsOfSlots.{run-passed}

@@ -3,16 +3,16 @@ use Rattle.std.proofs.Common.{Bool, List, None, Option, Some, [], ap, false, ifâ
 use Rattle.std.specs.List.{All}
 use Rattle.registers.specs.Bits.{HasBit}
 use Rattle.registers.specs.Laws.{HasBit-zero}
-use Rattle.adapter.specs.declared.register.Register.{Register}
-use Rattle.adapter.specs.declared.register.Register.TheVariants.{Rctl, Receive, Transmit}
-use Rattle.adapter.specs.declared.register.RingRegister.TheVariants.{BaseLow, BaseHigh, Length, Head, Tail}
-use Rattle.adapter.specs.declared.ring.RingRegisters.{RingRegisters}
-use Rattle.adapter.specs.Registers.{after_read, after_reset, by_row, is_reset, left_by_write}
-use Rattle.adapter.specs.State.{AdapterState}
-use Rattle.adapter.specs.Table.{register_at, row_of}
+use Rattle.adapter_model.specs.declared.register.Register.{Register}
+use Rattle.adapter_model.specs.declared.register.Register.TheVariants.{Rctl, Receive, Transmit}
+use Rattle.adapter_model.specs.declared.register.RingRegister.TheVariants.{BaseLow, BaseHigh, Length, Head, Tail}
+use Rattle.adapter_model.specs.declared.ring.RingRegisters.{RingRegisters}
+use Rattle.adapter_model.specs.Registers.{after_read, after_reset, by_row, is_reset, left_by_write}
+use Rattle.adapter_model.specs.State.{AdapterState}
+use Rattle.adapter_model.specs.Table.{register_at, row_of}
 use Rattle.bus.specs.declared.event.Access.{Access}
 use Rattle.bus.specs.declared.event.Access.TheVariants.{Loads, Reads, Stores, Writes}
-use Rattle.adapter.specs.World.{World}
+use Rattle.adapter_model.specs.World.{World}
 use Rattle.bus.proofs.Lists.{all-head, all-left, all-right, all-tail}
 use Rattle.bus.proofs.LinkSettings.{link-ticks}
 use Rattle.bus.specs.Law.{Management, management_of, Happens}

@@ -15,14 +15,14 @@ use Rattle.descriptors.specs.Ring.{HasValidIndices, address_of, count_of, distan
 use Rattle.descriptors.specs.RingLaws.{distance-grows, length-places, next-below, places-tail}
 use Rattle.rx_engine.specs.Held.{HasBegun, held, in_slots}
 use Rattle.rx_engine.specs.Pieces.{Piece}
-use Rattle.adapter.specs.HostAreas.{areas, buffer_of, data_of, IsForeign, offered_buffers, receives, reported_half, ring_area}
-use Rattle.adapter.specs.HostAreas.{status_byte, work_areas}
-use Rattle.adapter.specs.Slots.{buffered, done_slots, finished, slots_in_work, is_done, IsDealt, offered, outstanding}
-use Rattle.adapter.specs.HostFrames.{finished_pieces, named, piece_in}
-use Rattle.adapter.specs.Conditions.{Reports}
+use Rattle.adapter_model.specs.HostAreas.{areas, buffer_of, data_of, IsForeign, offered_buffers, receives, reported_half, ring_area}
+use Rattle.adapter_model.specs.HostAreas.{status_byte, work_areas}
+use Rattle.adapter_model.specs.Slots.{buffered, done_slots, finished, slots_in_work, is_done, IsDealt, offered, outstanding}
+use Rattle.adapter_model.specs.HostFrames.{finished_pieces, named, piece_in}
+use Rattle.adapter_model.specs.Conditions.{Reports}
 use Rattle.bus.specs.SlotOffers.{FramesCanBeOffered, SlotsCanBeOffered, offering, offering_frame}
-use Rattle.adapter.specs.Running.{CanTransmit}
-use Rattle.adapter.specs.World.{receive_ring, transmit_ring, World}
+use Rattle.adapter_model.specs.Running.{CanTransmit}
+use Rattle.adapter_model.specs.World.{receive_ring, transmit_ring, World}
 use Rattle.bus.proofs.KeptPieces.{cut-kept}
 use Rattle.bus.proofs.WrittenAreas.{NamesFit}
 use Rattle.bus.proofs.Lists.{all-head, all-left, all-none, all-right, all-tail, all-unmapped, pairs-head, pairs-tail, take_while-passes}

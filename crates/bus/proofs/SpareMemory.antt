@@ -7,15 +7,15 @@ use Rattle.dma_memory.specs.Areas.{AreApart, Area, IsInside, area_at}
 use Rattle.dma_memory.specs.AreaLaws.{apart-inside, apart-sym, inside-apart}
 use Rattle.rx_engine.specs.Descriptors as receive
 use Rattle.rx_engine.specs.declared.engine.Work.{Work}
-use Rattle.adapter.specs.HostAreas.{areas, buffer_of, buffer_size, data_of, IsForeign, offered_buffers, receives, reported_half, ring_area}
-use Rattle.adapter.specs.HostAreas.{status_byte, work_areas}
+use Rattle.adapter_model.specs.HostAreas.{areas, buffer_of, buffer_size, data_of, IsForeign, offered_buffers, receives, reported_half, ring_area}
+use Rattle.adapter_model.specs.HostAreas.{status_byte, work_areas}
 use Rattle.registers.specs.Bits.{HasBit}
 use Rattle.registers.specs.Places.{rctl_en}
-use Rattle.adapter.specs.Slots.{buffered, slots_in_work, offered, slot_of_work}
-use Rattle.adapter.specs.HostFrames.{named}
-use Rattle.adapter.specs.Conditions.{FitBuffers, Sound}
+use Rattle.adapter_model.specs.Slots.{buffered, slots_in_work, offered, slot_of_work}
+use Rattle.adapter_model.specs.HostFrames.{named}
+use Rattle.adapter_model.specs.Conditions.{FitBuffers, Sound}
 use Rattle.bus.specs.SpareMemory.{IsSpare}
-use Rattle.adapter.specs.World.{receive_ring, transmit_ring, World}
+use Rattle.adapter_model.specs.World.{receive_ring, transmit_ring, World}
 use Rattle.bus.proofs.EachArea.{all-areas, of-areas}
 use Rattle.bus.proofs.Lists.{all-head, all-left, all-none, all-right}
 use Rattle.bus.proofs.DriversSlots.{parts-of}

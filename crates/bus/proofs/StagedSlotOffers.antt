@@ -14,9 +14,9 @@ use Rattle.dma_memory.specs.OwnersLaws.{copies-cons, copies-itself, copies-push}
 use Rattle.descriptors.specs.Ring.{address_of, next_of}
 use Rattle.descriptors.specs.RingLaws.{place}
 use Rattle.rx_engine.specs.Descriptors.{named_address}
-use Rattle.adapter.specs.HostAreas.{areas, buffer_of, buffer_size}
-use Rattle.adapter.specs.Slots.{outstanding}
-use Rattle.adapter.specs.World.{World, receive_ring}
+use Rattle.adapter_model.specs.HostAreas.{areas, buffer_of, buffer_size}
+use Rattle.adapter_model.specs.Slots.{outstanding}
+use Rattle.adapter_model.specs.World.{World, receive_ring}
 use Rattle.bus.specs.RegisterSetting.{with_tail}
 use Rattle.bus.specs.SlotOffers.{CanOffer, offering}
 use Rattle.bus.specs.Pasts.{nothing}

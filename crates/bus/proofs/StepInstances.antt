@@ -1,5 +1,5 @@
 -- Each adapter step and each delivery is one of the events that may happen between two accesses.
-use Rattle.adapter.specs.declared.step.StepKind.TheVariants.{TxTake, TxPut, RxData, RxDone, EepromTick, PhyTick}
+use Rattle.adapter_model.specs.declared.step.StepKind.TheVariants.{TxTake, TxPut, RxData, RxDone, EepromTick, PhyTick}
 use Rattle.bus.specs.StepsAndArrivals.{ArrivalsHappen, StepsHappen}
 use Rattle.bus.proofs.RxDoneSteps.{done_happens}
 use Rattle.bus.proofs.RxDataSteps.{data_happens}

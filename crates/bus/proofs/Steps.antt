@@ -12,10 +12,10 @@ use Rattle.descriptors.specs.Ring.{address_of}
 use Rattle.descriptors.specs.RingLaws.{place}
 use Rattle.rx_engine.specs.PieceLaws.{frames-append}
 use Rattle.rx_engine.specs.Pieces.{IsPart, begun_of, frames_from, frames_of}
-use Rattle.adapter.specs.Conditions.{Sound}
-use Rattle.adapter.specs.HostFrames.{finished_pieces, frames_held, frames_to_send}
-use Rattle.adapter.specs.Slots.{written_back_slots}
-use Rattle.adapter.specs.World.{World, receive_ring}
+use Rattle.adapter_model.specs.Conditions.{Sound}
+use Rattle.adapter_model.specs.HostFrames.{finished_pieces, frames_held, frames_to_send}
+use Rattle.adapter_model.specs.Slots.{written_back_slots}
+use Rattle.adapter_model.specs.World.{World, receive_ring}
 use Rattle.bus.specs.Law.{Happens}
 use Rattle.bus.specs.DriversStores.{SameFrames}
 use Rattle.bus.specs.Pasts.{Past, nothing}

@@ -2,28 +2,28 @@
 use Rattle.std.proofs.Common.{◌≡◌, [], inl, Bool, true, false, ℕ, List, Option, Some, None, refl, sym, arith}
 use Rattle.std.proofs.lemmas.List.{append-nil}
 use Rattle.std.proofs.Common.{cond}
-use Rattle.registers.specs.Mdic.{MdicState, has_work, mdic_after_tick, phy_after_tick, told}
-use Rattle.registers.specs.Mdic as mdi
-use Rattle.registers.specs.Phy.{PhyState}
-use Rattle.registers.specs.Phy as phy
-use Rattle.registers.specs.declared.mdic.Ticked.{Ticked as Told}
+use Rattle.mdic_phy.specs.Mdic.{MdicState, has_work, mdic_after_tick, phy_after_tick, told}
+use Rattle.mdic_phy.specs.Mdic as mdi
+use Rattle.mdic_phy.specs.Phy.{PhyState}
+use Rattle.mdic_phy.specs.Phy as phy
+use Rattle.mdic_phy.specs.declared.mdic.Ticked.{Ticked as Told}
 use Rattle.rx_engine.specs.Held.{Holds, held}
 use Rattle.rx_engine.specs.Laws.{held-after_arrival}
 use Rattle.rx_engine.specs.declared.arrival.Fate.{Fate}
 use Rattle.rx_engine.specs.declared.arrival.Fate.TheVariants.{Off, Illegal, Filtered, Missed, Stored}
-use Rattle.adapter.specs.Receiving.{IsFate}
-use Rattle.adapter.specs.State.{AdapterState}
-use Rattle.adapter.specs.Steps.{after_phy_told, causes_told}
-use Rattle.adapter.specs.declared.step.StepKind.TheVariants.{EepromTick, PhyTick}
-use Rattle.adapter.specs.Outcomes.{FrameOutcome}
-use Rattle.adapter.specs.HostFrames.{finished_pieces, frames_held}
-use Rattle.adapter.specs.Conditions.{Sound}
+use Rattle.adapter_model.specs.Receiving.{IsFate}
+use Rattle.adapter_model.specs.State.{AdapterState}
+use Rattle.adapter_model.specs.Steps.{after_phy_told, causes_told}
+use Rattle.adapter_model.specs.declared.step.StepKind.TheVariants.{EepromTick, PhyTick}
+use Rattle.adapter_model.specs.Outcomes.{FrameOutcome}
+use Rattle.adapter_model.specs.HostFrames.{finished_pieces, frames_held}
+use Rattle.adapter_model.specs.Conditions.{Sound}
 use Rattle.bus.specs.Law.{Between, Happens, Management, management_of, phy_ticked}
 use Rattle.bus.specs.Pasts.{Past, nothing}
-use Rattle.adapter.specs.Running.{CanRun}
+use Rattle.adapter_model.specs.Running.{CanRun}
 use Rattle.bus.specs.StepsAndArrivals.{past_of_arrival, past_of_step, world_after_arrival, world_after_step}
-use Rattle.adapter.specs.State.{IsAdapter}
-use Rattle.adapter.specs.World.{World}
+use Rattle.adapter_model.specs.State.{IsAdapter}
+use Rattle.adapter_model.specs.World.{World}
 use Rattle.bus.proofs.Composition.{finishes-none, happens_none, puts-none}
 use Rattle.bus.proofs.EngineRegisters.{added, no-arrivals, steady_moves}
 use Rattle.descriptors.specs.Frames.{IsLegal}

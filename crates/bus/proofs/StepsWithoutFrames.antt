@@ -3,9 +3,9 @@ use Rattle.std.proofs.Common.{Bool, ◌≡◌, ◌+◌, [], ℕ, length, inl, sy
 use Rattle.std.proofs.lemmas.List.{append-nil}
 use Rattle.registers.specs.Bits.{HasBit}
 use Rattle.rx_engine.specs.Pieces.{frames_of}
-use Rattle.adapter.specs.HostFrames.{finished_pieces, frames_held, frames_to_send}
-use Rattle.adapter.specs.Slots.{written_back_slots}
-use Rattle.adapter.specs.World.{World}
+use Rattle.adapter_model.specs.HostFrames.{finished_pieces, frames_held, frames_to_send}
+use Rattle.adapter_model.specs.Slots.{written_back_slots}
+use Rattle.adapter_model.specs.World.{World}
 use Rattle.bus.specs.Pasts.{nothing}
 use Rattle.bus.proofs.Intervals.{misses-stay}
 use Rattle.bus.specs.DriverState.{DriverState}

@@ -17,8 +17,8 @@ use Rattle.descriptors.specs.RxDesc.{rx_desc_of}
 use Rattle.descriptors.specs.RxStatus.{status_bits, status_of}
 use Rattle.descriptors.specs.TxDesc.{tx_desc_of}
 use Rattle.rx_engine.specs.Descriptors.{named_address}
-use Rattle.adapter.specs.Slots.{is_done, outstanding}
-use Rattle.adapter.specs.World.{World, receive_ring, transmit_ring, world_after_store}
+use Rattle.adapter_model.specs.Slots.{is_done, outstanding}
+use Rattle.adapter_model.specs.World.{World, receive_ring, transmit_ring, world_after_store}
 use Rattle.bus.specs.DriversStores.{IsDriversArea}
 use Rattle.bus.specs.Pasts.{nothing}
 use Rattle.bus.proofs.WrittenAreas.{same-apart}

@@ -15,10 +15,10 @@ use Rattle.descriptors.specs.Ring.{slots_from}
 use Rattle.rx_engine.specs.Descriptors.{descriptor_at, named_address}
 use Rattle.rx_engine.specs.Pieces.{Piece, frames_of, parts}
 use Rattle.rx_engine.specs.Pieces.Piece.{Last, Part}
-use Rattle.adapter.specs.Conditions.{AreCut, FitBuffers, Sound}
-use Rattle.adapter.specs.HostFrames.{finished_pieces, frames_held, frames_to_send, named, piece_in}
-use Rattle.adapter.specs.Slots.{finished, slots_in_work, offered, outstanding}
-use Rattle.adapter.specs.World.{World, receive_ring}
+use Rattle.adapter_model.specs.Conditions.{AreCut, FitBuffers, Sound}
+use Rattle.adapter_model.specs.HostFrames.{finished_pieces, frames_held, frames_to_send, named, piece_in}
+use Rattle.adapter_model.specs.Slots.{finished, slots_in_work, offered, outstanding}
+use Rattle.adapter_model.specs.World.{World, receive_ring}
 use Rattle.bus.specs.DriversSlots.{frame_named}
 use Rattle.bus.specs.Pasts.{nothing}
 use Rattle.bus.specs.RunsOfSlots.{RunTaken, after_run}

@@ -12,13 +12,13 @@ use Rattle.dma_memory.specs.HostMemory.{LiesIn}
 use Rattle.descriptors.specs.declared.ring.Ring.{Ring}
 use Rattle.descriptors.specs.Ring.{address_of, count_of, distance_of, next_of, offered_places, slots_from}
 use Rattle.descriptors.specs.RingLaws.{next-below, next-inner, next-last}
-use Rattle.adapter.specs.Slots.{buffered, done_slots, finished, slots_in_work, is_done, IsDealt, offered, outstanding}
-use Rattle.adapter.specs.HostAreas.{areas, data_of, offered_buffers, ring_area, work_areas}
-use Rattle.adapter.specs.HostFrames.{named}
-use Rattle.adapter.specs.Conditions.{FitBuffers}
+use Rattle.adapter_model.specs.Slots.{buffered, done_slots, finished, slots_in_work, is_done, IsDealt, offered, outstanding}
+use Rattle.adapter_model.specs.HostAreas.{areas, data_of, offered_buffers, ring_area, work_areas}
+use Rattle.adapter_model.specs.HostFrames.{named}
+use Rattle.adapter_model.specs.Conditions.{FitBuffers}
 use Rattle.bus.specs.DriversSlots.{IsDriversSlot}
 use Rattle.bus.specs.FreedSlots.{WrittenSlotsCanBeFreed}
-use Rattle.adapter.specs.World.{receive_ring, transmit_ring, World}
+use Rattle.adapter_model.specs.World.{receive_ring, transmit_ring, World}
 use Rattle.bus.proofs.Areas.{separate-without}
 use Rattle.bus.proofs.Lists.{all-head, all-right, all-tail, all-weaker, pairs-head, take_while-passes}
 use Rattle.bus.proofs.Rings.{outstanding-apart}

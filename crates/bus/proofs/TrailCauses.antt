@@ -5,8 +5,8 @@ use Rattle.std.proofs.lemmas.Bool.{eq-eqb}
 use Rattle.std.specs.Int.Bits.{or_zero_r}
 use Rattle.std.specs.List.{All}
 use Rattle.std.proofs.lemmas.Nat.Bits.{bit_at_or, same_from_bits}
-use Rattle.registers.specs.Mdic.{told}
-use Rattle.registers.specs.declared.mdic.Ticked.{Ticked}
+use Rattle.mdic_phy.specs.Mdic.{told}
+use Rattle.mdic_phy.specs.declared.mdic.Ticked.{Ticked}
 use Rattle.registers.specs.Bits.{HasBit, union}
 use Rattle.registers.specs.Laws.{HasBit-union}
 use Rattle.rx_engine.specs.Moving.{is_half_offered}
@@ -14,17 +14,17 @@ use Rattle.rx_engine.specs.declared.arrival.Fate.{Fate}
 use Rattle.rx_engine.specs.declared.arrival.Fate.TheVariants.{Missed, Stored}
 use Rattle.tx_engine.specs.Steps.{IfFront}
 use Rattle.tx_engine.specs.Transmitter.{Queued}
-use Rattle.adapter.specs.Receiving.{after_arrive, causes_of_finishing, causes_of_moving, is_ending}
-use Rattle.adapter.specs.Rings.{ring_of}
-use Rattle.adapter.specs.State.{AdapterState}
-use Rattle.adapter.specs.Steps.{after_phy_told, causes_told}
-use Rattle.adapter.specs.Transmitting.{IsOldest, causes_of_putting, causes_of_taking, moved_on}
-use Rattle.adapter.specs.World.{World}
-use Rattle.adapter.specs.declared.ring.RingRegisters.{RingRegisters}
-use Rattle.adapter.specs.declared.step.StepKind.{StepKind}
-use Rattle.adapter.specs.declared.step.StepKind.TheVariants.{TxTake, TxPut, RxData, RxDone, EepromTick, PhyTick}
-use Rattle.adapter.specs.Outcomes.{FrameOutcome}
-use Rattle.adapter.specs.declared.outcome.Outcome.TheVariants.{Took, Put, Part, Moved, Done, Fault}
+use Rattle.adapter_model.specs.Receiving.{after_arrive, causes_of_finishing, causes_of_moving, is_ending}
+use Rattle.adapter_model.specs.Rings.{ring_of}
+use Rattle.adapter_model.specs.State.{AdapterState}
+use Rattle.adapter_model.specs.Steps.{after_phy_told, causes_told}
+use Rattle.adapter_model.specs.Transmitting.{IsOldest, causes_of_putting, causes_of_taking, moved_on}
+use Rattle.adapter_model.specs.World.{World}
+use Rattle.adapter_model.specs.declared.ring.RingRegisters.{RingRegisters}
+use Rattle.adapter_model.specs.declared.step.StepKind.{StepKind}
+use Rattle.adapter_model.specs.declared.step.StepKind.TheVariants.{TxTake, TxPut, RxData, RxDone, EepromTick, PhyTick}
+use Rattle.adapter_model.specs.Outcomes.{FrameOutcome}
+use Rattle.adapter_model.specs.declared.outcome.Outcome.TheVariants.{Took, Put, Part, Moved, Done, Fault}
 use Rattle.bus.specs.Accesses.{LeavesCauses, LeavesMask}
 use Rattle.bus.specs.StepsAndArrivals.{world_after_step}
 use Rattle.bus.specs.TrailCauses.{CausesAreThoseOfSteps, MasksStay, RecordedCausesStay}

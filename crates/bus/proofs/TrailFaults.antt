@@ -3,23 +3,23 @@ use Rattle.std.proofs.Common.{◌≡◌, ◌⊎◌, ℕ, Bool, true, false, inl,
 use Rattle.std.specs.List.{All}
 use Rattle.std.specs.Prelude.{IfSome}
 use Rattle.std.proofs.lemmas.List.Elements.{All-cons}
-use Rattle.registers.specs.Eerd.{is_pending}
-use Rattle.registers.specs.Mdic.{has_work, told}
-use Rattle.registers.specs.declared.mdic.Ticked.{Ticked}
+use Rattle.eeprom.specs.Eerd.{is_pending}
+use Rattle.mdic_phy.specs.Mdic.{has_work, told}
+use Rattle.mdic_phy.specs.declared.mdic.Ticked.{Ticked}
 use Rattle.rx_engine.specs.declared.arrival.Fate.{Fate}
 use Rattle.rx_engine.specs.declared.arrival.Fate.TheVariants.{Missed, Stored}
-use Rattle.adapter.specs.Receiving.{after_arrive}
-use Rattle.adapter.specs.Registers.{left_by_read, left_by_write, read_of}
-use Rattle.adapter.specs.State.{AdapterState}
-use Rattle.adapter.specs.Steps.{Answers, after_phy_told, ticked}
-use Rattle.adapter.specs.Table.{register_at}
-use Rattle.adapter.specs.World.{World}
-use Rattle.adapter.specs.declared.register.Register.{Register}
-use Rattle.adapter.specs.declared.register.Register.TheVariants.{Icr, Mpc, Gprc, Gptc, Rnbc}
-use Rattle.adapter.specs.declared.step.StepKind.{StepKind}
-use Rattle.adapter.specs.declared.step.StepKind.TheVariants.{TxTake, TxPut, RxData, RxDone, EepromTick, PhyTick}
-use Rattle.adapter.specs.Outcomes.{FrameOutcome}
-use Rattle.adapter.specs.declared.outcome.Outcome.TheVariants.{Took, Put, Part, Moved, Done, Fault}
+use Rattle.adapter_model.specs.Receiving.{after_arrive}
+use Rattle.adapter_model.specs.Registers.{left_by_read, left_by_write, read_of}
+use Rattle.adapter_model.specs.State.{AdapterState}
+use Rattle.adapter_model.specs.Steps.{Answers, after_phy_told, ticked}
+use Rattle.adapter_model.specs.Table.{register_at}
+use Rattle.adapter_model.specs.World.{World}
+use Rattle.adapter_model.specs.declared.register.Register.{Register}
+use Rattle.adapter_model.specs.declared.register.Register.TheVariants.{Icr, Mpc, Gprc, Gptc, Rnbc}
+use Rattle.adapter_model.specs.declared.step.StepKind.{StepKind}
+use Rattle.adapter_model.specs.declared.step.StepKind.TheVariants.{TxTake, TxPut, RxData, RxDone, EepromTick, PhyTick}
+use Rattle.adapter_model.specs.Outcomes.{FrameOutcome}
+use Rattle.adapter_model.specs.declared.outcome.Outcome.TheVariants.{Took, Put, Part, Moved, Done, Fault}
 use Rattle.bus.specs.Accesses.{IsNoReset, ResetsNothing}
 use Rattle.bus.specs.declared.event.Access.TheVariants.{Loads, Reads, Stores, Writes}
 use Rattle.bus.specs.StepsAndArrivals.{world_after_step}

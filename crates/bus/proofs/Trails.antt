@@ -6,7 +6,7 @@ use Rattle.bus.specs.Pasts.{nothing}
 use Rattle.bus.specs.Trails.{IsStep, Occurs, Trail, TrailsHappen, past_of, past_of_event, world_after}
 use Rattle.bus.specs.declared.event.Event.{Event}
 use Rattle.bus.specs.declared.event.Event.TheVariants.{Accesses, Arrives, Steps}
-use Rattle.adapter.specs.World.{World}
+use Rattle.adapter_model.specs.World.{World}
 use Rattle.bus.proofs.Composition.{happens_none, happens_trans}
 use Rattle.bus.proofs.StepInstances.{arrivals_happen, steps_happen}
 use Rattle.bus.proofs.Lists.{all-head, all-tail}

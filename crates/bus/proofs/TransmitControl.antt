@@ -8,10 +8,10 @@ use Rattle.dma_memory.specs.Areas.{IsInside}
 use Rattle.dma_memory.specs.Layout.{TransmitBuffer, area_of, receive_buffer_bytes}
 use Rattle.descriptors.specs.Ring.{slots_from}
 use Rattle.rx_engine.specs.Pieces.{frames_of}
-use Rattle.adapter.specs.HostAreas.{data_of}
-use Rattle.adapter.specs.Table.{register_at}
-use Rattle.adapter.specs.World.{world_after_write}
-use Rattle.adapter.specs.declared.register.Register.TheVariants.{Ims}
+use Rattle.adapter_model.specs.HostAreas.{data_of}
+use Rattle.adapter_model.specs.Table.{register_at}
+use Rattle.adapter_model.specs.World.{world_after_write}
+use Rattle.adapter_model.specs.declared.register.Register.TheVariants.{Ims}
 use Rattle.bus.proofs.RegisterSetting.{other_writes_leave_frames, transmitter_can_be_set}
 use Rattle.bus.proofs.Lists.{all-none}
 use Rattle.bus.specs.RegisterSetting.{with_transmit_control}

@@ -9,12 +9,12 @@ use Rattle.dma_memory.specs.HostMemory.{LiesIn}
 use Rattle.dma_memory.specs.Layout.{ReceiveBuffer, ReceiveRing, TransmitRing, area_of, receive_buffer_bytes}
 use Rattle.dma_memory.specs.LayoutLaws.{place-below_size, places-apart}
 use Rattle.rx_engine.specs.Descriptors.{named_address}
-use Rattle.adapter.specs.HostAreas.{data_of, frame_areas, offered_buffers, ring_area, work_areas}
-use Rattle.adapter.specs.HostFrames.{named, piece_in}
-use Rattle.adapter.specs.Rings.{new_ring, ring_of}
-use Rattle.adapter.specs.Slots.{finished, is_done, outstanding}
-use Rattle.adapter.specs.World.{World, receive_ring, transmit_ring}
-use Rattle.adapter.specs.declared.ring.RingRegisters.{RingRegisters}
+use Rattle.adapter_model.specs.HostAreas.{data_of, frame_areas, offered_buffers, ring_area, work_areas}
+use Rattle.adapter_model.specs.HostFrames.{named, piece_in}
+use Rattle.adapter_model.specs.Rings.{new_ring, ring_of}
+use Rattle.adapter_model.specs.Slots.{finished, is_done, outstanding}
+use Rattle.adapter_model.specs.World.{World, receive_ring, transmit_ring}
+use Rattle.adapter_model.specs.declared.ring.RingRegisters.{RingRegisters}
 use Rattle.bus.proofs.IdleRings.{offered-none, outstanding-none, none-to_send}
 use Rattle.bus.proofs.KeptPieces.{cut-kept}
 use Rattle.bus.proofs.RegisterSetting.{transmit_ring_can_be_set}

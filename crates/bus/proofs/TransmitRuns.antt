@@ -12,8 +12,8 @@ use Rattle.dma_memory.specs.LayoutLaws.{places-apart}
 use Rattle.descriptors.specs.Frames.{padded}
 use Rattle.descriptors.specs.Ring.{next_of, slots_from}
 use Rattle.descriptors.specs.RingLaws.{next-below}
-use Rattle.adapter.specs.Slots.{written_back_slots}
-use Rattle.adapter.specs.World.{World, transmit_ring, world_after_store, world_after_write}
+use Rattle.adapter_model.specs.Slots.{written_back_slots}
+use Rattle.adapter_model.specs.World.{World, transmit_ring, world_after_store, world_after_write}
 use Rattle.bus.proofs.Lists.{all-none}
 use Rattle.bus.proofs.KnownRings.{transmit_tail-written}
 use Rattle.bus.specs.Keeping.{view_of}

@@ -11,9 +11,9 @@ use Rattle.dma_memory.specs.Layout.{receive_buffer_bytes, transmit_buffer_bytes}
 use Rattle.dma_memory.specs.LayoutLaws.{place-below_size, places-apart}
 use Rattle.descriptors.specs.Ring.{address_of, slots_from}
 use Rattle.descriptors.specs.RingLaws.{place}
-use Rattle.adapter.specs.HostAreas.{IsForeign, areas, data_of, frame_areas, ring_area}
-use Rattle.adapter.specs.Slots.{outstanding}
-use Rattle.adapter.specs.World.{World, receive_ring, transmit_ring}
+use Rattle.adapter_model.specs.HostAreas.{IsForeign, areas, data_of, frame_areas, ring_area}
+use Rattle.adapter_model.specs.Slots.{outstanding}
+use Rattle.adapter_model.specs.World.{World, receive_ring, transmit_ring}
 use Rattle.bus.proofs.Lists.{all-head, all-tail, all-unmapped}
 use Rattle.bus.proofs.Rings.{outstanding-inside, slots-below}
 use Rattle.bus.proofs.SpareMemory.{spare-apart, spare-foreign}

@@ -13,20 +13,20 @@ use Rattle.tx_engine.specs.Fetching.{fetched}
 use Rattle.tx_engine.specs.Steps.{written_back as reported_in}
 use Rattle.tx_engine.specs.Laws.{to_send-put}
 use Rattle.tx_engine.specs.Transmitter.{Queued}
-use Rattle.adapter.specs.State.{AdapterState}
-use Rattle.adapter.specs.Transmitting.{PutAnswers, after_put, causes_of_putting}
-use Rattle.adapter.specs.declared.step.StepKind.TheVariants.{TxPut}
-use Rattle.adapter.specs.Outcomes.{FrameOutcome}
-use Rattle.adapter.specs.declared.outcome.Outcome.TheVariants.{Put, WireFull, Nothing}
-use Rattle.adapter.specs.HostAreas.{areas, buffer_of, data_of, frame_areas, offered_buffers, receives, reported_half, ring_area}
-use Rattle.adapter.specs.HostAreas.{status_byte, work_areas}
-use Rattle.adapter.specs.Slots.{buffered, finished, slots_in_work, is_done, offered}
-use Rattle.adapter.specs.HostFrames.{frames_held, named}
-use Rattle.adapter.specs.Conditions.{Reports, Sound}
+use Rattle.adapter_model.specs.State.{AdapterState}
+use Rattle.adapter_model.specs.Transmitting.{PutAnswers, after_put, causes_of_putting}
+use Rattle.adapter_model.specs.declared.step.StepKind.TheVariants.{TxPut}
+use Rattle.adapter_model.specs.Outcomes.{FrameOutcome}
+use Rattle.adapter_model.specs.declared.outcome.Outcome.TheVariants.{Put, WireFull, Nothing}
+use Rattle.adapter_model.specs.HostAreas.{areas, buffer_of, data_of, frame_areas, offered_buffers, receives, reported_half, ring_area}
+use Rattle.adapter_model.specs.HostAreas.{status_byte, work_areas}
+use Rattle.adapter_model.specs.Slots.{buffered, finished, slots_in_work, is_done, offered}
+use Rattle.adapter_model.specs.HostFrames.{frames_held, named}
+use Rattle.adapter_model.specs.Conditions.{Reports, Sound}
 use Rattle.bus.specs.Law.{Between, Happens}
 use Rattle.bus.specs.Pasts.{nothing}
 use Rattle.bus.specs.StepsAndArrivals.{past_of_step, world_after_step}
-use Rattle.adapter.specs.World.{receive_ring, transmit_ring, World}
+use Rattle.adapter_model.specs.World.{receive_ring, transmit_ring, World}
 use Rattle.bus.proofs.Areas.{separate-same}
 use Rattle.bus.proofs.Composition.{finishes-none, happens_none}
 use Rattle.bus.proofs.KeptPieces.{cut-kept}

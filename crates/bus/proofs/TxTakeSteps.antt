@@ -8,20 +8,20 @@ use Rattle.descriptors.specs.Ring.{HasValidIndices, address_of}
 use Rattle.tx_engine.specs.Fetching.{fetched, pads}
 use Rattle.tx_engine.specs.Laws.{to_send-take}
 use Rattle.tx_engine.specs.Transmitter.{Queued}
-use Rattle.adapter.specs.Recording.{with_causes}
-use Rattle.adapter.specs.Transmitting.{CanTake, HasNothingToTake, TakeAnswers, causes_of_taking, moved_on}
-use Rattle.adapter.specs.declared.step.StepKind.TheVariants.{TxTake}
-use Rattle.adapter.specs.Outcomes.{FrameOutcome}
-use Rattle.adapter.specs.declared.outcome.Outcome.TheVariants.{Took, Nothing, Fault}
-use Rattle.adapter.specs.Slots.{buffered, finished, slots_in_work, IsDealt, offered}
-use Rattle.adapter.specs.HostAreas.{data_of, offered_buffers, reported_half, ring_area, status_byte, work_areas}
-use Rattle.adapter.specs.HostFrames.{frames_held, named}
-use Rattle.adapter.specs.Conditions.{Reports, Sound}
+use Rattle.adapter_model.specs.Recording.{with_causes}
+use Rattle.adapter_model.specs.Transmitting.{CanTake, HasNothingToTake, TakeAnswers, causes_of_taking, moved_on}
+use Rattle.adapter_model.specs.declared.step.StepKind.TheVariants.{TxTake}
+use Rattle.adapter_model.specs.Outcomes.{FrameOutcome}
+use Rattle.adapter_model.specs.declared.outcome.Outcome.TheVariants.{Took, Nothing, Fault}
+use Rattle.adapter_model.specs.Slots.{buffered, finished, slots_in_work, IsDealt, offered}
+use Rattle.adapter_model.specs.HostAreas.{data_of, offered_buffers, reported_half, ring_area, status_byte, work_areas}
+use Rattle.adapter_model.specs.HostFrames.{frames_held, named}
+use Rattle.adapter_model.specs.Conditions.{Reports, Sound}
 use Rattle.bus.specs.Law.{Between, Happens}
 use Rattle.bus.specs.Pasts.{nothing}
-use Rattle.adapter.specs.Running.{CanTransmit}
+use Rattle.adapter_model.specs.Running.{CanTransmit}
 use Rattle.bus.specs.StepsAndArrivals.{world_after_step}
-use Rattle.adapter.specs.World.{receive_ring, transmit_ring, World}
+use Rattle.adapter_model.specs.World.{receive_ring, transmit_ring, World}
 use Rattle.bus.proofs.Areas.{separate-without}
 use Rattle.bus.proofs.Composition.{finishes-none, happens_none, puts-none}
 use Rattle.bus.proofs.KeptPieces.{cut-kept}

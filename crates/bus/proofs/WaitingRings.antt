@@ -11,13 +11,13 @@ use Rattle.rx_engine.specs.Pieces.Piece.{Last, Part}
 use Rattle.rx_engine.specs.Receiver.{oldest}
 use Rattle.rx_engine.specs.declared.engine.Work.{Work}
 use Rattle.tx_engine.specs.Transmitter.{Queued}
-use Rattle.adapter.specs.declared.ring.RingRegisters.{RingRegisters}
-use Rattle.adapter.specs.Rings.{ring_of}
-use Rattle.adapter.specs.Slots.{buffered, finished, slots_in_work, offered, outstanding, slot_of_work}
-use Rattle.adapter.specs.HostFrames.{finished_pieces, frames_held, piece_in, pieces_in_slots}
+use Rattle.adapter_model.specs.declared.ring.RingRegisters.{RingRegisters}
+use Rattle.adapter_model.specs.Rings.{ring_of}
+use Rattle.adapter_model.specs.Slots.{buffered, finished, slots_in_work, offered, outstanding, slot_of_work}
+use Rattle.adapter_model.specs.HostFrames.{finished_pieces, frames_held, piece_in, pieces_in_slots}
 use Rattle.bus.specs.RegisterSetting.{OffersWait, TransmitStaysIdle}
-use Rattle.adapter.specs.Conditions.{AreCut, Sound}
-use Rattle.adapter.specs.World.{receive_ring, transmit_ring, World}
+use Rattle.adapter_model.specs.Conditions.{AreCut, Sound}
+use Rattle.adapter_model.specs.World.{receive_ring, transmit_ring, World}
 use Rattle.bus.proofs.IdleRings.{none-dealt, still-idle}
 use Rattle.bus.proofs.Lists.{all-head, append-empty, map-empty}
 use Rattle.bus.proofs.DriversSlots.{drivers_side_stays}

@@ -4,9 +4,9 @@ use Rattle.std.proofs.Common.{◌≡◌, ◌++◌, ℕ, List, sym, ap, subst, �
 use Rattle.std.proofs.lemmas.List.{append-nil}
 use Rattle.dma_memory.specs.Layout.{receive_buffer_bytes}
 use Rattle.registers.specs.Bits.{HasBit}
-use Rattle.rx_engine.specs.Registers.{FilterRegisters}
-use Rattle.adapter.specs.HostFrames.{frames_held}
-use Rattle.adapter.specs.declared.ring.RingRegisters.{RingRegisters}
+use Rattle.rx_filter.specs.Registers.{FilterRegisters}
+use Rattle.adapter_model.specs.HostFrames.{frames_held}
+use Rattle.adapter_model.specs.declared.ring.RingRegisters.{RingRegisters}
 use Rattle.bus.proofs.WaitingRings.{holds-none}
 use Rattle.bus.proofs.Steps.{goes-happens}
 use Rattle.bus.specs.Beginnings.{NoFrameComes, NothingIsHeld, RingsThatAreOffStay}

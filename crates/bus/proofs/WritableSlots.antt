@@ -5,8 +5,8 @@ use Rattle.dma_memory.specs.Areas.{descriptor_area}
 use Rattle.dma_memory.specs.AreaLaws.{apart-inside, apart-sym, inside-apart, lies-inside}
 use Rattle.dma_memory.specs.HostMemory.{LiesIn}
 use Rattle.descriptors.specs.Ring.{address_of, count_of, distance_of, offered_places, slots_from}
-use Rattle.adapter.specs.HostAreas.{ring_area}
-use Rattle.adapter.specs.World.{receive_ring, transmit_ring}
+use Rattle.adapter_model.specs.HostAreas.{ring_area}
+use Rattle.adapter_model.specs.World.{receive_ring, transmit_ring}
 use Rattle.bus.specs.WritableSlots.{DriversReceiveSlotsCanBeWritten, DriversTransmitSlotsCanBeWritten, SlotsFromTailBelongToDriver}
 use Rattle.bus.specs.WritableSlots.{TailSlotsBelongToDriver}
 use Rattle.bus.proofs.EachArea.{of-areas}

@@ -22,12 +22,12 @@ use Rattle.tx_engine.specs.Fetching as transmit
 use Rattle.tx_engine.specs.Fetching.{as_sent, fetched, frame_at}
 use Rattle.tx_engine.specs.ToSend.{to_send}
 use Rattle.tx_engine.specs.Transmitter.{Queued}
-use Rattle.adapter.specs.Slots.{buffered, done_slots, finished, slots_in_work, is_done}
-use Rattle.adapter.specs.Slots.{IsDealt, offered, outstanding, slot_of_work, written_back_slots}
-use Rattle.adapter.specs.HostAreas.{data_of, ring_area, work_areas}
-use Rattle.adapter.specs.HostFrames.{finished_pieces, frames_held, frames_to_send, named, piece_in, pieces_in_slots}
-use Rattle.adapter.specs.Conditions.{AreCut, FitBuffers}
-use Rattle.adapter.specs.World.{receive_ring, transmit_ring, World}
+use Rattle.adapter_model.specs.Slots.{buffered, done_slots, finished, slots_in_work, is_done}
+use Rattle.adapter_model.specs.Slots.{IsDealt, offered, outstanding, slot_of_work, written_back_slots}
+use Rattle.adapter_model.specs.HostAreas.{data_of, ring_area, work_areas}
+use Rattle.adapter_model.specs.HostFrames.{finished_pieces, frames_held, frames_to_send, named, piece_in, pieces_in_slots}
+use Rattle.adapter_model.specs.Conditions.{AreCut, FitBuffers}
+use Rattle.adapter_model.specs.World.{receive_ring, transmit_ring, World}
 use Rattle.bus.proofs.KeptPieces.{SameDescriptors, cut-kept}
 use Rattle.bus.proofs.Lists.{all-head, all-left, all-right, all-unmapped, map-same}
 use Rattle.bus.proofs.Rings.{dealt-left, dealt-right, dealt-same, done-same, outstanding-inside}

@@ -1,10 +1,10 @@
 -- Accesses of a driver that don't change the adapter, or don't change its recorded causes or its mask (our choice).
 use Rattle.std.specs.Prelude.{⊤, ◌≡◌, ◌≢◌, ℕ, false, Some, IfSome}
-use Rattle.adapter.specs.Registers.{is_reset}
-use Rattle.adapter.specs.Table.{register_at, row_of}
-use Rattle.adapter.specs.World.{World}
-use Rattle.adapter.specs.declared.register.Register.{Register}
-use Rattle.adapter.specs.declared.register.Register.TheVariants.{Icr, Ics, Ims, Imc, Mpc, Gprc, Gptc, Rnbc}
+use Rattle.adapter_model.specs.Registers.{is_reset}
+use Rattle.adapter_model.specs.Table.{register_at, row_of}
+use Rattle.adapter_model.specs.World.{World}
+use Rattle.adapter_model.specs.declared.register.Register.{Register}
+use Rattle.adapter_model.specs.declared.register.Register.TheVariants.{Icr, Ics, Ims, Imc, Mpc, Gprc, Gptc, Rnbc}
 use Rattle.bus.specs.IdleRings.{IsOfRing}
 use Rattle.bus.specs.declared.event.Access.{Access}
 use Rattle.bus.specs.declared.event.Access.TheVariants.{Loads, Reads, Stores, Writes}

@@ -2,13 +2,13 @@
 use Rattle.std.specs.Prelude.{⊤, ◌≡◌, [], Option, Some, length}
 use Rattle.rx_engine.specs.Receiver.{new_receiver}
 use Rattle.tx_engine.specs.Transmitter.{new_transmitter}
-use Rattle.adapter.specs.Registers.{after_reset}
-use Rattle.adapter.specs.Running.{CanRun}
-use Rattle.adapter.specs.Table.{register_at}
-use Rattle.adapter.specs.State.{IsAdapter}
-use Rattle.adapter.specs.World.{World}
-use Rattle.adapter.specs.declared.register.Register.{Register}
-use Rattle.adapter.specs.declared.register.Register.TheVariants.{Rctl, Receive, Transmit}
+use Rattle.adapter_model.specs.Registers.{after_reset}
+use Rattle.adapter_model.specs.Running.{CanRun}
+use Rattle.adapter_model.specs.Table.{register_at}
+use Rattle.adapter_model.specs.State.{IsAdapter}
+use Rattle.adapter_model.specs.World.{World}
+use Rattle.adapter_model.specs.declared.register.Register.{Register}
+use Rattle.adapter_model.specs.declared.register.Register.TheVariants.{Rctl, Receive, Transmit}
 use Rattle.bus.specs.IdleRings.{HasIdleRings, IsIdle}
 use Rattle.bus.specs.Law.{Happens}
 use Rattle.bus.specs.Pasts.{Past}

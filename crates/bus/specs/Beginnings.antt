@@ -1,23 +1,23 @@
 -- The state in which a driver begins, and the accesses of its initialization (our choice).
 use Rattle.std.specs.Prelude.{◌≡◌, ◌≤◌, ◌<◌, ◌⊎◌, ◌+◌, ◌*◌, ℕ, Bool, true, false, List, [], None, length}
-use Rattle.adapter.specs.declared.offsets.TheConstants.{IMS}
+use Rattle.adapter_model.specs.declared.offsets.TheConstants.{IMS}
 use Rattle.registers.specs.Bits.{HasBit, union}
 use Rattle.registers.specs.Kept.{causes_of}
 use Rattle.dma_memory.specs.Areas.{IsInside, area_at}
 use Rattle.dma_memory.specs.Layout.{Counts, TransmitRing, area_of, descriptor_bytes, receive_buffer_bytes, size_of}
 use Rattle.descriptors.specs.RingLaws.{place}
-use Rattle.adapter.specs.HostAreas.{buffer_size, ring_area}
-use Rattle.adapter.specs.HostFrames.{finished_pieces, frames_held, frames_to_send}
-use Rattle.adapter.specs.Rings.{ring_of}
-use Rattle.adapter.specs.Running.{CanRun}
-use Rattle.adapter.specs.Slots.{finished, written_back_slots}
-use Rattle.adapter.specs.World.{World, receive_ring, transmit_ring, world_after_store, world_after_write}
-use Rattle.adapter.specs.declared.ring.RingRegisters.{RingRegisters}
+use Rattle.adapter_model.specs.HostAreas.{buffer_size, ring_area}
+use Rattle.adapter_model.specs.HostFrames.{finished_pieces, frames_held, frames_to_send}
+use Rattle.adapter_model.specs.Rings.{ring_of}
+use Rattle.adapter_model.specs.Running.{CanRun}
+use Rattle.adapter_model.specs.Slots.{finished, written_back_slots}
+use Rattle.adapter_model.specs.World.{World, receive_ring, transmit_ring, world_after_store, world_after_write}
+use Rattle.adapter_model.specs.declared.ring.RingRegisters.{RingRegisters}
 use Rattle.bus.specs.IdleRings.{IsIdle}
 use Rattle.bus.specs.RegisterSetting.{with_receive_control, with_transmit_control, with_transmit_ring}
 use Rattle.bus.specs.Law.{Happens}
 use Rattle.bus.specs.Pasts.{Past, nothing}
-use Rattle.adapter.specs.KnownRing.{KnowsRing}
+use Rattle.adapter_model.specs.KnownRing.{KnowsRing}
 use Rattle.bus.specs.DriverState.{DriverSetup, DriverState, next_receive, receive_slot, transmit_tail}
 use Rattle.bus.specs.Calls.{Goes, GoesTo, HasNoForgottenWork, driver_did, driver_in, frames_ended}
 use Rattle.bus.specs.ReadyDrivers.{IsDriver, ReadyWith, TransmitIs, transmit_side}

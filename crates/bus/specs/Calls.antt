@@ -12,11 +12,11 @@ use Rattle.descriptors.specs.Ring.{slots_from}
 use Rattle.descriptors.specs.RingLaws.{place}
 use Rattle.descriptors.specs.TxDesc.{tx_desc_bytes}
 use Rattle.descriptors.specs.TxFields.{command_of, sent_of, tx_eop, tx_ifcs, tx_rs}
-use Rattle.adapter.specs.declared.offsets.TheConstants.{ICR, RDT, TDT}
+use Rattle.adapter_model.specs.declared.offsets.TheConstants.{ICR, RDT, TDT}
 use Rattle.rx_engine.specs.Pieces.{frames_of}
-use Rattle.adapter.specs.HostFrames.{finished_pieces, frames_held, frames_to_send}
-use Rattle.adapter.specs.Slots.{written_back_slots}
-use Rattle.adapter.specs.World.{World}
+use Rattle.adapter_model.specs.HostFrames.{finished_pieces, frames_held, frames_to_send}
+use Rattle.adapter_model.specs.Slots.{written_back_slots}
+use Rattle.adapter_model.specs.World.{World}
 use Rattle.bus.specs.Link.{KeepsLink}
 use Rattle.bus.specs.Pasts.{Past}
 use Rattle.bus.specs.Settings.{AreSet, WhileOff}

@@ -1,9 +1,9 @@
 -- What may happen in consecutive intervals between two accesses.
 use Rattle.std.specs.Prelude.{ℕ}
-use Rattle.adapter.specs.Conditions.{Sound}
+use Rattle.adapter_model.specs.Conditions.{Sound}
 use Rattle.bus.specs.Law.{Happens}
 use Rattle.bus.specs.Pasts.{Past, joined, nothing}
-use Rattle.adapter.specs.World.{World}
+use Rattle.adapter_model.specs.World.{World}
 
 -- What happens in two consecutive intervals happens in the joined interval.
 abbrev pub HappeningsJoin : Type 0

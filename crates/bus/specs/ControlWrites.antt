@@ -1,9 +1,9 @@
 -- What a driver's write of a register changes, in the terms of the bus law (our choice).
 use Rattle.std.specs.Prelude.{◌≡◌, ◌+◌, ℕ, bit_and}
-use Rattle.adapter.specs.Rings.{ring_distance, ring_written}
-use Rattle.adapter.specs.World.{World, world_after_write}
-use Rattle.adapter.specs.declared.offsets.TheConstants.{RCTL, TCTL, TDBAL}
-use Rattle.adapter.specs.declared.register.RingRegister.{RingRegister}
+use Rattle.adapter_model.specs.Rings.{ring_distance, ring_written}
+use Rattle.adapter_model.specs.World.{World, world_after_write}
+use Rattle.adapter_model.specs.declared.offsets.TheConstants.{RCTL, TCTL, TDBAL}
+use Rattle.adapter_model.specs.declared.register.RingRegister.{RingRegister}
 use Rattle.registers.specs.Kept.{receive_control_mask, transmit_control_mask}
 use Rattle.bus.specs.RegisterSetting.{with_receive_control, with_transmit_control, with_transmit_ring}
 

@@ -2,8 +2,8 @@
 use Rattle.std.specs.Prelude.{◌++◌, ◌∷◌, [], ℕ, fold}
 use Rattle.std.specs.Hash.{HashWrites}
 use Rattle.std.specs.Hash.DefaultHasher as sip
-use Rattle.adapter.specs.Hashed.{adapter_writes}
-use Rattle.adapter.specs.World.{World}
+use Rattle.adapter_model.specs.Hashed.{adapter_writes}
+use Rattle.adapter_model.specs.World.{World}
 
 -- What the adapter writes to a hasher, followed by the bytes of memory.
 abbrev pub world_writes : World → HashWrites

@@ -6,12 +6,12 @@ use Rattle.descriptors.specs.declared.ring.Ring.{Ring}
 use Rattle.descriptors.specs.Ring.{address_of, count_of}
 use Rattle.rx_engine.specs.Descriptors.{named_address}
 use Rattle.tx_engine.specs.Fetching.{transmit_descriptor_at}
-use Rattle.adapter.specs.Slots.{finished, outstanding, written_back_slots}
-use Rattle.adapter.specs.HostFrames.{named}
-use Rattle.adapter.specs.Conditions.{Sound}
+use Rattle.adapter_model.specs.Slots.{finished, outstanding, written_back_slots}
+use Rattle.adapter_model.specs.HostFrames.{named}
+use Rattle.adapter_model.specs.Conditions.{Sound}
 use Rattle.bus.specs.Law.{Between, Happens}
 use Rattle.bus.specs.Pasts.{Past}
-use Rattle.adapter.specs.World.{receive_ring, transmit_ring, World}
+use Rattle.adapter_model.specs.World.{receive_ring, transmit_ring, World}
 
 -- The descriptors of these slots have the same bytes in both worlds.
 abbrev pub SlotsStay : World → World → List ℕ → Type 0

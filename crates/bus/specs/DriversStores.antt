@@ -4,12 +4,12 @@ use Rattle.dma_memory.specs.Areas.{AreApart, Area, descriptor_area}
 use Rattle.dma_memory.specs.HostMemory.{LiesIn}
 use Rattle.registers.specs.Bits.{HasBit}
 use Rattle.registers.specs.Places.{rctl_en}
-use Rattle.adapter.specs.Slots.{finished, outstanding, written_back_slots}
-use Rattle.adapter.specs.HostAreas.{buffer_size, frame_areas, IsForeign}
-use Rattle.adapter.specs.HostFrames.{finished_pieces, frames_held, frames_to_send}
-use Rattle.adapter.specs.Conditions.{AreCut, FitBuffers, Sound}
-use Rattle.adapter.specs.Running.{GoOn}
-use Rattle.adapter.specs.World.{receive_ring, transmit_ring, World, world_after_store}
+use Rattle.adapter_model.specs.Slots.{finished, outstanding, written_back_slots}
+use Rattle.adapter_model.specs.HostAreas.{buffer_size, frame_areas, IsForeign}
+use Rattle.adapter_model.specs.HostFrames.{finished_pieces, frames_held, frames_to_send}
+use Rattle.adapter_model.specs.Conditions.{AreCut, FitBuffers, Sound}
+use Rattle.adapter_model.specs.Running.{GoOn}
+use Rattle.adapter_model.specs.World.{receive_ring, transmit_ring, World, world_after_store}
 
 -- An area is apart from all outstanding descriptors, and from all frames and buffers that the conditions name.
 pub record IsDriversArea (oldest_receive oldest_transmit : ℕ) (world : World) (area : Area) : Type 0 where

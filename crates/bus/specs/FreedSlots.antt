@@ -1,10 +1,10 @@
 -- A driver frees its oldest written-back transmit slot: the driver then counts the next slot as its oldest.
 use Rattle.std.specs.Prelude.{◌≡◌, ◌∷◌, ℕ, List}
 use Rattle.descriptors.specs.Ring.{address_of, next_of}
-use Rattle.adapter.specs.Slots.{outstanding, written_back_slots}
-use Rattle.adapter.specs.Conditions.{Sound}
+use Rattle.adapter_model.specs.Slots.{outstanding, written_back_slots}
+use Rattle.adapter_model.specs.Conditions.{Sound}
 use Rattle.bus.specs.DriversSlots.{IsDriversSlot}
-use Rattle.adapter.specs.World.{transmit_ring, World}
+use Rattle.adapter_model.specs.World.{transmit_ring, World}
 
 -- The transmit slot after the oldest one.
 abbrev pub behind_oldest_transmit : ℕ → World → ℕ

@@ -2,16 +2,16 @@
 -- offered ("14.4 Receive Initialization", "14.5 Transmit Initialization").
 use Rattle.std.specs.Prelude.{⊤, ◌≡◌, ℕ, List, [], ◌∷◌, None, length, take}
 use Rattle.dma_memory.specs.Areas.{AreSeparate}
-use Rattle.registers.specs.declared.phy.Link.{Link}
+use Rattle.mdic_phy.specs.declared.phy.Link.{Link}
 use Rattle.rx_engine.specs.Receiver.{Receiver, oldest}
-use Rattle.adapter.specs.Registers.{after_reset, new_adapter, write_of}
-use Rattle.adapter.specs.declared.register.Register.{Register}
-use Rattle.adapter.specs.declared.register.Register.TheVariants.{Receive, Transmit}
-use Rattle.adapter.specs.HostAreas.{ring_area}
-use Rattle.adapter.specs.Conditions.{Sound}
+use Rattle.adapter_model.specs.Registers.{after_reset, new_adapter, write_of}
+use Rattle.adapter_model.specs.declared.register.Register.{Register}
+use Rattle.adapter_model.specs.declared.register.Register.TheVariants.{Receive, Transmit}
+use Rattle.adapter_model.specs.HostAreas.{ring_area}
+use Rattle.adapter_model.specs.Conditions.{Sound}
 use Rattle.bus.specs.Law.{Happens}
 use Rattle.bus.specs.Pasts.{Past}
-use Rattle.adapter.specs.World.{receive_ring, transmit_ring, World, world_after_read, world_after_store, world_after_write}
+use Rattle.adapter_model.specs.World.{receive_ring, transmit_ring, World, world_after_read, world_after_store, world_after_write}
 
 -- In both rings, head equals tail. The rings are inside memory and apart from each other. A ring without descriptors is an empty area.
 pub record HasIdleRings (world : World) : Type 0 where

@@ -1,9 +1,9 @@
 -- What a driver knows of its rings remains true, and a write of a tail changes only the tail (our choice).
 use Rattle.std.specs.Prelude.{◌≡◌, ◌<◌, ℕ}
-use Rattle.adapter.specs.declared.offsets.TheConstants.{RDT, TDT}
+use Rattle.adapter_model.specs.declared.offsets.TheConstants.{RDT, TDT}
 use Rattle.descriptors.specs.declared.ring.Ring.{Ring}
-use Rattle.adapter.specs.KnownRing.{KnowsRing}
-use Rattle.adapter.specs.World.{World, world_after_write}
+use Rattle.adapter_model.specs.KnownRing.{KnowsRing}
+use Rattle.adapter_model.specs.World.{World, world_after_write}
 use Rattle.bus.specs.Law.{Steady}
 use Rattle.bus.specs.Pasts.{Past}
 

@@ -2,23 +2,23 @@
 use Rattle.std.specs.Prelude.{◌≡◌, ◌≤◌, ◌+◌, ◌⊎◌, ◌++◌, ℕ, List, [], ◌∷◌, All, length, max, min, if◌then◌else◌}
 use Rattle.std.specs.Fn.{iterate}
 use Rattle.dma_memory.specs.Areas.{Area, bytes_in}
-use Rattle.registers.specs.Eerd as eeprom
-use Rattle.registers.specs.Mdic.{MdicState, has_work, mdic_after_tick, phy_after_tick}
-use Rattle.registers.specs.Phy.{PhyState}
+use Rattle.eeprom.specs.Eerd as eeprom
+use Rattle.mdic_phy.specs.Mdic.{MdicState, has_work, mdic_after_tick, phy_after_tick}
+use Rattle.mdic_phy.specs.Phy.{PhyState}
 use Rattle.registers.specs.Bits.{HasBit}
 use Rattle.registers.specs.Counting.{greatest_count}
 use Rattle.descriptors.specs.Frames.{IsLegal}
 use Rattle.descriptors.specs.Ring.{HasValidIndices}
 use Rattle.rx_engine.specs.Pieces.{IsPart, Piece}
-use Rattle.adapter.specs.Conditions.{AreCut, FitBuffers, Sound}
-use Rattle.adapter.specs.HostAreas.{IsForeign}
-use Rattle.adapter.specs.HostFrames.{finished_pieces, frames_held, frames_to_send}
-use Rattle.adapter.specs.Rings.{ring_of}
-use Rattle.adapter.specs.Running.{CanRun}
-use Rattle.adapter.specs.Slots.{finished, written_back_slots}
-use Rattle.adapter.specs.State.{AdapterState, IsAdapter}
-use Rattle.adapter.specs.World.{World}
-use Rattle.adapter.specs.declared.ring.RingRegisters.{RingRegisters}
+use Rattle.adapter_model.specs.Conditions.{AreCut, FitBuffers, Sound}
+use Rattle.adapter_model.specs.HostAreas.{IsForeign}
+use Rattle.adapter_model.specs.HostFrames.{finished_pieces, frames_held, frames_to_send}
+use Rattle.adapter_model.specs.Rings.{ring_of}
+use Rattle.adapter_model.specs.Running.{CanRun}
+use Rattle.adapter_model.specs.Slots.{finished, written_back_slots}
+use Rattle.adapter_model.specs.State.{AdapterState, IsAdapter}
+use Rattle.adapter_model.specs.World.{World}
+use Rattle.adapter_model.specs.declared.ring.RingRegisters.{RingRegisters}
 use Rattle.bus.specs.Pasts.{Past}
 use Rattle.bus.specs.declared.event.Access.{Access}
 use Rattle.registers.specs.Places.{rctl_en, rxt0}

@@ -1,10 +1,10 @@
 -- A link that is up remains up while a driver sets the adapter up (our choice).
 use Rattle.std.specs.Prelude.{⊤, ◌≡◌, true, [], ◌∷◌, All, Option, Some, None}
-use Rattle.registers.specs.Phy.{link_is_up}
-use Rattle.adapter.specs.Table.{register_at}
-use Rattle.adapter.specs.World.{World}
-use Rattle.adapter.specs.declared.register.Register.{Register}
-use Rattle.adapter.specs.declared.register.Register.TheVariants.{Ctrl, Mdic}
+use Rattle.mdic_phy.specs.Phy.{link_is_up}
+use Rattle.adapter_model.specs.Table.{register_at}
+use Rattle.adapter_model.specs.World.{World}
+use Rattle.adapter_model.specs.declared.register.Register.{Register}
+use Rattle.adapter_model.specs.declared.register.Register.TheVariants.{Ctrl, Mdic}
 use Rattle.bus.specs.Law.{Happens}
 use Rattle.bus.specs.Pasts.{Past, joined}
 use Rattle.bus.specs.Settings.{Write, writes_in}

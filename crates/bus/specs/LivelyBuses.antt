@@ -1,8 +1,8 @@
 -- A lively bus: a machine whose EEPROM and PHY take a step before each access (our choice).
 use Rattle.std.specs.Prelude.{⊤, ◌≡◌, ◌+◌, ◌-◌, ◌^◌, ◌∷◌, [], ℕ, true, List, All, length, min}
-use Rattle.adapter.specs.Outcomes.{FrameOutcome}
-use Rattle.adapter.specs.World.{World}
-use Rattle.adapter.specs.declared.step.StepKind.TheVariants.{EepromTick, PhyTick}
+use Rattle.adapter_model.specs.Outcomes.{FrameOutcome}
+use Rattle.adapter_model.specs.World.{World}
+use Rattle.adapter_model.specs.declared.step.StepKind.TheVariants.{EepromTick, PhyTick}
 use Rattle.bus.specs.Pasts.{Past}
 use Rattle.bus.specs.Trails.{Trail, past_of}
 use Rattle.bus.specs.declared.event.Event.{Event}

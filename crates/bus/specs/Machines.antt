@@ -1,7 +1,7 @@
 -- An adapter and its host's memory, as plain data (our choice).
 use Rattle.std.specs.Prelude.{Bool, bit_and, nat_lt}
-use Rattle.adapter.specs.State.{AdapterState, IsAdapter}
-use Rattle.adapter.specs.World.{World}
+use Rattle.adapter_model.specs.State.{AdapterState, IsAdapter}
+use Rattle.adapter_model.specs.World.{World}
 use Rattle.bus.specs.Trails.{world_after}
 use Rattle.bus.specs.declared.event.Event.{Event}
 use Rattle.bus.specs.declared.machine.Machine.TheInside.{Inside}

@@ -7,7 +7,7 @@ use Rattle.descriptors.specs.RxStatus.{dd, eop, status_bits}
 use Rattle.descriptors.specs.declared.rx_desc.RxDesc.{RxDesc}
 use Rattle.rx_engine.specs.Held.{piece_of}
 use Rattle.rx_engine.specs.Pieces.{Piece}
-use Rattle.adapter.specs.HostFrames.{finished_pieces}
+use Rattle.adapter_model.specs.HostFrames.{finished_pieces}
 use Rattle.bus.specs.declared.bus.Bus.{Ghosts}
 use Rattle.bus.specs.declared.event.Access.TheVariants.{Loads}
 use Rattle.bus.specs.Calls.{Moment, Ran, at, only}

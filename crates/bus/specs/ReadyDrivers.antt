@@ -13,12 +13,12 @@ use Rattle.descriptors.specs.RxStatus.{status_of}
 use Rattle.registers.specs.Places.{tctl_psp}
 use Rattle.rx_engine.specs.Descriptors.{named_address}
 use Rattle.tx_engine.specs.Transmitter.{Queued}
-use Rattle.adapter.specs.Conditions.{AreCut, FitBuffers, Sound}
-use Rattle.adapter.specs.HostAreas.{data_of}
-use Rattle.adapter.specs.KnownRing.{KnowsRing}
-use Rattle.adapter.specs.Running.{CanRun}
-use Rattle.adapter.specs.Slots.{outstanding}
-use Rattle.adapter.specs.World.{World, receive_ring, transmit_ring}
+use Rattle.adapter_model.specs.Conditions.{AreCut, FitBuffers, Sound}
+use Rattle.adapter_model.specs.HostAreas.{data_of}
+use Rattle.adapter_model.specs.KnownRing.{KnowsRing}
+use Rattle.adapter_model.specs.Running.{CanRun}
+use Rattle.adapter_model.specs.Slots.{outstanding}
+use Rattle.adapter_model.specs.World.{World, receive_ring, transmit_ring}
 use Rattle.bus.specs.DriverState.{DriverState, HandedOut, buffer_at, owners, receive_slot, receive_tail}
 use Rattle.bus.specs.DriverState.{transmit_slot}
 

@@ -7,9 +7,9 @@ use Rattle.descriptors.specs.RingLaws.{place}
 use Rattle.std.specs.List.{concat}
 use Rattle.rx_engine.specs.Pieces.{IsLastSize, Piece, parts}
 use Rattle.rx_engine.specs.Pieces.Piece.{Last}
-use Rattle.adapter.specs.HostFrames.{finished_pieces, piece_in}
-use Rattle.adapter.specs.Slots.{finished}
-use Rattle.adapter.specs.World.{World, world_after_store}
+use Rattle.adapter_model.specs.HostFrames.{finished_pieces, piece_in}
+use Rattle.adapter_model.specs.Slots.{finished}
+use Rattle.adapter_model.specs.World.{World, world_after_store}
 use Rattle.bus.specs.RegisterSetting.{with_tail}
 use Rattle.bus.specs.DriversSlots.{frame_named}
 use Rattle.bus.specs.Pasts.{nothing}

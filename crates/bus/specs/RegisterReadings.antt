@@ -1,8 +1,8 @@
 -- What a driver that is ready knows after a read of a register (our choice).
 use Rattle.std.specs.Prelude.{◌≡◌, ◌≢◌, ◌<◌, ℕ, Bool, []}
-use Rattle.adapter.specs.declared.offsets.TheConstants.{ICR, MPC}
-use Rattle.adapter.specs.Registers.{answer_at}
-use Rattle.adapter.specs.World.{World, world_after_read}
+use Rattle.adapter_model.specs.declared.offsets.TheConstants.{ICR, MPC}
+use Rattle.adapter_model.specs.Registers.{answer_at}
+use Rattle.adapter_model.specs.World.{World, world_after_read}
 use Rattle.bus.specs.Pasts.{nothing}
 use Rattle.bus.specs.Calls.{FlowsTo, GoesTo, driver_did, driver_in, sum_limit, missed_added}
 use Rattle.bus.specs.DriverState.{DriverState}

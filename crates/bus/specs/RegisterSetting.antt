@@ -5,20 +5,20 @@ use Rattle.registers.specs.Bits.{HasBit}
 use Rattle.descriptors.specs.Ring.{address_of, count_of, slots_from}
 use Rattle.registers.specs.Places.{rctl_bsex, rctl_en, tctl_psp}
 use Rattle.rx_engine.specs.Descriptors.{named_address}
-use Rattle.adapter.specs.Registers.{is_reset, write_of}
-use Rattle.adapter.specs.declared.register.Register.{Register}
-use Rattle.adapter.specs.declared.register.Register.TheVariants.{Rctl, Receive, Tctl, Transmit}
-use Rattle.adapter.specs.declared.ring.RingRegisters.{RingRegisters}
-use Rattle.adapter.specs.HostAreas.{areas}
-use Rattle.adapter.specs.Slots.{finished, offered, outstanding}
-use Rattle.adapter.specs.HostFrames.{frames_held, frames_to_send}
-use Rattle.adapter.specs.Conditions.{AreCut, FitBuffers, Sound}
+use Rattle.adapter_model.specs.Registers.{is_reset, write_of}
+use Rattle.adapter_model.specs.declared.register.Register.{Register}
+use Rattle.adapter_model.specs.declared.register.Register.TheVariants.{Rctl, Receive, Tctl, Transmit}
+use Rattle.adapter_model.specs.declared.ring.RingRegisters.{RingRegisters}
+use Rattle.adapter_model.specs.HostAreas.{areas}
+use Rattle.adapter_model.specs.Slots.{finished, offered, outstanding}
+use Rattle.adapter_model.specs.HostFrames.{frames_held, frames_to_send}
+use Rattle.adapter_model.specs.Conditions.{AreCut, FitBuffers, Sound}
 use Rattle.bus.specs.Law.{Happens}
 use Rattle.bus.specs.SlotOffers.{CanOffer, offering}
 use Rattle.bus.specs.DriversStores.{LeavesFrames, SameFrames}
 use Rattle.bus.specs.Pasts.{Past}
-use Rattle.adapter.specs.Running.{GoOn}
-use Rattle.adapter.specs.World.{receive_ring, transmit_ring, World, world_after_read}
+use Rattle.adapter_model.specs.Running.{GoOn}
+use Rattle.adapter_model.specs.World.{receive_ring, transmit_ring, World, world_after_read}
 
 -- This number of receive slots can be offered, one after the other.
 abbrev pub CanOfferMany : ℕ → ℕ → World → Type 0

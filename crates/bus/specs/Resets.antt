@@ -4,9 +4,9 @@ use Rattle.registers.specs.Bits.{HasBit}
 use Rattle.registers.specs.Places.{rctl_bsex, rctl_en}
 use Rattle.dma_memory.specs.Layout.{size_of}
 use Rattle.dma_memory.specs.Owners.{HasOneOwner, HaveSameNumbers}
-use Rattle.adapter.specs.Registers.{after_reset}
-use Rattle.adapter.specs.State.{IsAdapter}
-use Rattle.adapter.specs.World.{World}
+use Rattle.adapter_model.specs.Registers.{after_reset}
+use Rattle.adapter_model.specs.State.{IsAdapter}
+use Rattle.adapter_model.specs.World.{World}
 use Rattle.bus.specs.AdaptersAtRest.{IsAtRest, NoFrame}
 use Rattle.bus.specs.Law.{Happens}
 use Rattle.bus.specs.Pasts.{Past, nothing}

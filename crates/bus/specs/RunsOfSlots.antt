@@ -8,11 +8,11 @@ use Rattle.descriptors.specs.RingLaws.{place}
 use Rattle.rx_engine.specs.Descriptors.{descriptor_at}
 use Rattle.rx_engine.specs.Pieces.{IsLastSize, frames_of, parts}
 use Rattle.rx_engine.specs.Pieces.Piece.{Last}
-use Rattle.adapter.specs.Conditions.{AreCut, FitBuffers, Sound}
-use Rattle.adapter.specs.HostAreas.{IsForeign}
-use Rattle.adapter.specs.HostFrames.{finished_pieces, frames_held, named, piece_in}
-use Rattle.adapter.specs.Slots.{finished, outstanding}
-use Rattle.adapter.specs.World.{World, receive_ring}
+use Rattle.adapter_model.specs.Conditions.{AreCut, FitBuffers, Sound}
+use Rattle.adapter_model.specs.HostAreas.{IsForeign}
+use Rattle.adapter_model.specs.HostFrames.{finished_pieces, frames_held, named, piece_in}
+use Rattle.adapter_model.specs.Slots.{finished, outstanding}
+use Rattle.adapter_model.specs.World.{World, receive_ring}
 use Rattle.bus.specs.DriversSlots.{IsDriversSlot, frame_named}
 
 -- The places of a run's slots in the ring, from the oldest slot on.

@@ -1,17 +1,17 @@
 -- The settings of an adapter: the registers that only a driver's writes change, and values that never change (our choice).
 use Rattle.std.specs.Prelude.{⊤, ◌≡◌, ℕ, List, [], ◌∷◌, All, Option, Some}
 use Rattle.registers.specs.Bits.{HasBit}
-use Rattle.registers.specs.Phy.{new_phy}
-use Rattle.registers.specs.declared.phy.Link.{Link}
+use Rattle.mdic_phy.specs.Phy.{new_phy}
+use Rattle.mdic_phy.specs.declared.phy.Link.{Link}
 use Rattle.registers.specs.Places.{rctl_en}
-use Rattle.rx_engine.specs.Registers.{FilterRegisters}
-use Rattle.adapter.specs.declared.ring.RingRegisters.{RingRegisters}
-use Rattle.adapter.specs.Registers.{adapter_at_reset, after_write}
-use Rattle.adapter.specs.State.{AdapterState}
-use Rattle.adapter.specs.Table.{register_at}
-use Rattle.adapter.specs.World.{World}
-use Rattle.adapter.specs.declared.register.Register.{Register}
-use Rattle.adapter.specs.declared.register.Register.TheVariants.{Rctl}
+use Rattle.rx_filter.specs.Registers.{FilterRegisters}
+use Rattle.adapter_model.specs.declared.ring.RingRegisters.{RingRegisters}
+use Rattle.adapter_model.specs.Registers.{adapter_at_reset, after_write}
+use Rattle.adapter_model.specs.State.{AdapterState}
+use Rattle.adapter_model.specs.Table.{register_at}
+use Rattle.adapter_model.specs.World.{World}
+use Rattle.adapter_model.specs.declared.register.Register.{Register}
+use Rattle.adapter_model.specs.declared.register.Register.TheVariants.{Rctl}
 use Rattle.bus.specs.Law.{Happens}
 use Rattle.bus.specs.Pasts.{Past, joined}
 use Rattle.bus.specs.declared.event.Access.{Access}

@@ -6,15 +6,15 @@ use Rattle.registers.specs.Bits.{HasBit}
 use Rattle.descriptors.specs.Ring.{address_of, count_of, next_of}
 use Rattle.registers.specs.Places.{rctl_en, tctl_psp}
 use Rattle.tx_engine.specs.Fetching.{fetched, frame_at}
-use Rattle.adapter.specs.HostAreas.{areas, buffer_of, data_of, IsForeign, reported_half, status_byte}
-use Rattle.adapter.specs.Slots.{finished, is_done, outstanding, written_back_slots}
-use Rattle.adapter.specs.HostFrames.{finished_pieces, frames_held, frames_to_send}
-use Rattle.adapter.specs.Conditions.{AreCut, FitBuffers, Reports, Sound}
+use Rattle.adapter_model.specs.HostAreas.{areas, buffer_of, data_of, IsForeign, reported_half, status_byte}
+use Rattle.adapter_model.specs.Slots.{finished, is_done, outstanding, written_back_slots}
+use Rattle.adapter_model.specs.HostFrames.{finished_pieces, frames_held, frames_to_send}
+use Rattle.adapter_model.specs.Conditions.{AreCut, FitBuffers, Reports, Sound}
 use Rattle.bus.specs.DriversStores.{SameFrames}
-use Rattle.adapter.specs.Running.{CanTransmit, GoOn}
-use Rattle.adapter.specs.World.{receive_ring, transmit_ring, World}
-use Rattle.adapter.specs.Rings.{ring_of}
-use Rattle.adapter.specs.declared.ring.RingRegisters.{RingRegisters}
+use Rattle.adapter_model.specs.Running.{CanTransmit, GoOn}
+use Rattle.adapter_model.specs.World.{receive_ring, transmit_ring, World}
+use Rattle.adapter_model.specs.Rings.{ring_of}
+use Rattle.adapter_model.specs.declared.ring.RingRegisters.{RingRegisters}
 
 -- A driver offers its next receive slot: it advances RDT by one ("3.2.6 Receive Descriptor Queue Structure").
 

@@ -2,12 +2,12 @@
 use Rattle.std.specs.Prelude.{ℕ, All}
 use Rattle.dma_memory.specs.Areas.{AreApart, Area, area_at}
 use Rattle.rx_engine.specs.Descriptors.{named_address}
-use Rattle.adapter.specs.HostAreas.{areas, data_of, IsForeign, ring_area}
-use Rattle.adapter.specs.Conditions.{FitBuffers, Sound}
+use Rattle.adapter_model.specs.HostAreas.{areas, data_of, IsForeign, ring_area}
+use Rattle.adapter_model.specs.Conditions.{FitBuffers, Sound}
 use Rattle.bus.specs.Law.{Happens}
 use Rattle.bus.specs.Pasts.{Past}
-use Rattle.adapter.specs.Slots.{outstanding}
-use Rattle.adapter.specs.World.{receive_ring, transmit_ring, World}
+use Rattle.adapter_model.specs.Slots.{outstanding}
+use Rattle.adapter_model.specs.World.{receive_ring, transmit_ring, World}
 
 -- An area is apart from both rings, and from the receive buffers of this size and the data that outstanding slots point to.
 pub record IsSpare (size oldest_receive oldest_transmit : ℕ) (world : World) (area : Area) : Type 0 where

@@ -3,16 +3,16 @@ use Rattle.std.specs.Prelude.{ℕ, Bool, List}
 use Rattle.rx_engine.specs.Arriving.{kept}
 use Rattle.rx_engine.specs.declared.arrival.Fate.{Fate}
 use Rattle.rx_engine.specs.declared.arrival.Fate.TheVariants.{Off, Illegal, Filtered, Missed, Stored}
-use Rattle.adapter.specs.Outcomes.{put_by}
-use Rattle.adapter.specs.Receiving.{IsFate, after_arrive}
-use Rattle.adapter.specs.State.{IsAdapter}
-use Rattle.adapter.specs.Steps.{Answers, after_step, memory_after_step}
-use Rattle.adapter.specs.declared.step.StepKind.{StepKind}
-use Rattle.adapter.specs.declared.step.StepKind.TheVariants.{TxTake, TxPut, RxData, RxDone, EepromTick, PhyTick}
-use Rattle.adapter.specs.Outcomes.{FrameOutcome}
+use Rattle.adapter_model.specs.Outcomes.{put_by}
+use Rattle.adapter_model.specs.Receiving.{IsFate, after_arrive}
+use Rattle.adapter_model.specs.State.{IsAdapter}
+use Rattle.adapter_model.specs.Steps.{Answers, after_step, memory_after_step}
+use Rattle.adapter_model.specs.declared.step.StepKind.{StepKind}
+use Rattle.adapter_model.specs.declared.step.StepKind.TheVariants.{TxTake, TxPut, RxData, RxDone, EepromTick, PhyTick}
+use Rattle.adapter_model.specs.Outcomes.{FrameOutcome}
 use Rattle.bus.specs.Law.{Happens}
 use Rattle.bus.specs.Pasts.{Past, nothing}
-use Rattle.adapter.specs.World.{World}
+use Rattle.adapter_model.specs.World.{World}
 
 -- What happens in a step of this kind with this outcome.
 abbrev pub past_of_step : StepKind → FrameOutcome → Past

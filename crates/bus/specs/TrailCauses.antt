@@ -1,24 +1,24 @@
 -- The interrupt causes that each event of a trail records (13.4.17 "Interrupt Cause Read Register"), and when recorded causes and the mask
 -- don't change otherwise.
 use Rattle.std.specs.Prelude.{◌≡◌, ℕ, Bool, true, List, [], ◌∷◌, Option, Some, None, All, if◌then◌else◌}
-use Rattle.registers.specs.declared.mdic.Ticked.{Ticked}
-use Rattle.registers.specs.Mdic.{told}
+use Rattle.mdic_phy.specs.declared.mdic.Ticked.{Ticked}
+use Rattle.mdic_phy.specs.Mdic.{told}
 use Rattle.registers.specs.Bits.{HasBit, union}
 use Rattle.registers.specs.Places.{alone, lsc, mdac, rxdmt0, rxo, rxt0, txdw, txqe}
 use Rattle.rx_engine.specs.Moving.{is_half_offered}
 use Rattle.rx_engine.specs.declared.arrival.Fate.{Fate}
 use Rattle.rx_engine.specs.declared.arrival.Fate.TheVariants.{Missed}
 use Rattle.tx_engine.specs.Steps.{IfFront}
-use Rattle.adapter.specs.Receiving.{causes_of_moving, is_ending}
-use Rattle.adapter.specs.Rings.{ring_of}
-use Rattle.adapter.specs.State.{AdapterState}
-use Rattle.adapter.specs.Steps.{causes_told}
-use Rattle.adapter.specs.Transmitting.{causes_of_putting, causes_of_taking, moved_on}
-use Rattle.adapter.specs.World.{World}
-use Rattle.adapter.specs.declared.step.StepKind.{StepKind}
-use Rattle.adapter.specs.declared.step.StepKind.TheVariants.{TxTake, TxPut, RxData, RxDone, PhyTick}
-use Rattle.adapter.specs.Outcomes.{FrameOutcome}
-use Rattle.adapter.specs.declared.outcome.Outcome.TheVariants.{Took, Put, Part, Moved, Done}
+use Rattle.adapter_model.specs.Receiving.{causes_of_moving, is_ending}
+use Rattle.adapter_model.specs.Rings.{ring_of}
+use Rattle.adapter_model.specs.State.{AdapterState}
+use Rattle.adapter_model.specs.Steps.{causes_told}
+use Rattle.adapter_model.specs.Transmitting.{causes_of_putting, causes_of_taking, moved_on}
+use Rattle.adapter_model.specs.World.{World}
+use Rattle.adapter_model.specs.declared.step.StepKind.{StepKind}
+use Rattle.adapter_model.specs.declared.step.StepKind.TheVariants.{TxTake, TxPut, RxData, RxDone, PhyTick}
+use Rattle.adapter_model.specs.Outcomes.{FrameOutcome}
+use Rattle.adapter_model.specs.declared.outcome.Outcome.TheVariants.{Took, Put, Part, Moved, Done}
 use Rattle.bus.specs.Accesses.{LeavesCauses, LeavesMask}
 use Rattle.bus.specs.Trails.{Trail, past_of, world_after}
 use Rattle.bus.specs.declared.event.Event.{Event}

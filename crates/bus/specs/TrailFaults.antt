@@ -1,8 +1,8 @@
 -- A fault remains visible: it stops an engine until the next reset (our choice).
 use Rattle.std.specs.Prelude.{⊤, ◌≡◌, ◌≢◌, true, false, List, All}
-use Rattle.adapter.specs.State.{AdapterState}
-use Rattle.adapter.specs.World.{World}
-use Rattle.adapter.specs.declared.outcome.Outcome.TheVariants.{Fault}
+use Rattle.adapter_model.specs.State.{AdapterState}
+use Rattle.adapter_model.specs.World.{World}
+use Rattle.adapter_model.specs.declared.outcome.Outcome.TheVariants.{Fault}
 use Rattle.bus.specs.Accesses.{IsNoReset}
 use Rattle.bus.specs.Trails.{Trail, past_of}
 use Rattle.bus.specs.declared.event.Event.{Event}

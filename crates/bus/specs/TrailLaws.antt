@@ -4,7 +4,7 @@ use Rattle.bus.specs.Pasts.{Past, joined, nothing}
 use Rattle.bus.specs.declared.event.Access.{Access}
 use Rattle.bus.specs.Trails.{Trail, past_of, past_of_event, world_after}
 use Rattle.bus.specs.declared.event.Event.{Event}
-use Rattle.adapter.specs.World.{World}
+use Rattle.adapter_model.specs.World.{World}
 
 pub trail_joins : (first later : List Event) (a b c : World) → Trail first a b → Trail later b c → Trail (first ++ later) a c
 trail_joins [] later a b c one two = subst (λ (w : World). Trail later w c) one two

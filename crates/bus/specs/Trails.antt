@@ -1,8 +1,8 @@
 -- What happens to a world, event by event: adapter steps, deliveries and accesses.
 use Rattle.std.specs.Prelude.{◌≡◌, List, [], ◌∷◌, All, ⊤}
-use Rattle.adapter.specs.Receiving.{IsFate}
-use Rattle.adapter.specs.Registers.{answer_at}
-use Rattle.adapter.specs.Steps.{Answers}
+use Rattle.adapter_model.specs.Receiving.{IsFate}
+use Rattle.adapter_model.specs.Registers.{answer_at}
+use Rattle.adapter_model.specs.Steps.{Answers}
 use Rattle.bus.specs.declared.event.Event.{Event}
 use Rattle.bus.specs.declared.event.Event.TheVariants.{Accesses, Arrives, Steps}
 use Rattle.bus.specs.Law.{Happens}
@@ -10,8 +10,8 @@ use Rattle.bus.specs.Pasts.{Past, joined, nothing}
 use Rattle.bus.specs.declared.event.Access.{Access}
 use Rattle.bus.specs.declared.event.Access.TheVariants.{Loads, Reads, Stores, Writes}
 use Rattle.bus.specs.StepsAndArrivals.{past_of_arrival, past_of_step, world_after_arrival, world_after_step}
-use Rattle.adapter.specs.State.{IsAdapter}
-use Rattle.adapter.specs.World.{World, world_after_read, world_after_store, world_after_write}
+use Rattle.adapter_model.specs.State.{IsAdapter}
+use Rattle.adapter_model.specs.World.{World, world_after_read, world_after_store, world_after_write}
 
 -- If the access is a read, its value is that of the register in the world before the access.
 abbrev pub IsAnswered : Access → World → Type 0

@@ -1,13 +1,13 @@
 -- What a driver that is ready, with its transmit side set up, does with its transmit slots (our choice).
 use Rattle.std.specs.Prelude.{⊤, ◌≡◌, ◌≤◌, ◌<◌, ◌+◌, ◌-◌, ◌%◌, ◌⊎◌, ◌++◌, ℕ, true, false, List, [], ◌∷◌, All, length}
-use Rattle.adapter.specs.declared.offsets.TheConstants.{TDT}
+use Rattle.adapter_model.specs.declared.offsets.TheConstants.{TDT}
 use Rattle.dma_memory.specs.Areas.{bytes_in}
 use Rattle.dma_memory.specs.HostMemory.{bytes_at}
 use Rattle.dma_memory.specs.Layout.{Counts, TransmitBuffer, area_of, transmit_buffer_bytes, descriptor_bytes}
 use Rattle.descriptors.specs.Frames.{longest_frame, padded, shortest_sent}
-use Rattle.adapter.specs.HostFrames.{frames_to_send}
-use Rattle.adapter.specs.Slots.{is_done, written_back_slots}
-use Rattle.adapter.specs.World.{World, transmit_ring, world_after_store, world_after_write}
+use Rattle.adapter_model.specs.HostFrames.{frames_to_send}
+use Rattle.adapter_model.specs.Slots.{is_done, written_back_slots}
+use Rattle.adapter_model.specs.World.{World, transmit_ring, world_after_store, world_after_write}
 use Rattle.bus.specs.Law.{Happens}
 use Rattle.bus.specs.SlotOffers.{offering_frame}
 use Rattle.bus.specs.DriversSlots.{IsDriversSlot}

@@ -5,9 +5,9 @@ use Rattle.dma_memory.specs.HostMemory.{LiesIn}
 use Rattle.dma_memory.specs.Layout.{descriptor_bytes}
 use Rattle.descriptors.specs.declared.ring.Ring.{Ring}
 use Rattle.descriptors.specs.Ring.{address_of, count_of, distance_of}
-use Rattle.adapter.specs.HostAreas.{IsForeign}
-use Rattle.adapter.specs.Conditions.{Sound}
-use Rattle.adapter.specs.World.{receive_ring, transmit_ring, World}
+use Rattle.adapter_model.specs.HostAreas.{IsForeign}
+use Rattle.adapter_model.specs.Conditions.{Sound}
+use Rattle.adapter_model.specs.World.{receive_ring, transmit_ring, World}
 use Rattle.bus.specs.DriversSlots.{IsDriversSlot}
 use Rattle.bus.specs.DriversStores.{IsDriversArea}
 

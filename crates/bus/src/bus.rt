@@ -1,12 +1,12 @@
 // The bus with its ghost members, and the honest bus, which counts its accesses.
 
 ghost use Rattle.std.specs.Prelude.{◌≡◌, ◌+◌, ◌≤◌, ℕ, length, min};
-ghost use Rattle.adapter.specs.Registers.{answer_at};
+ghost use Rattle.adapter_model.specs.Registers.{answer_at};
 ghost use Rattle.bus.specs.BusMembers.{Composes, KeepsProperties};
 ghost use Rattle.bus.specs.Law.{Acts, view};
 ghost use Rattle.bus.specs.Pasts.{Past};
 ghost use Rattle.bus.specs.declared.event.Access.TheVariants.{Loads, Reads, Stores, Writes};
-ghost use Rattle.adapter.specs.World.{World, world_after_read, world_after_store, world_after_write};
+ghost use Rattle.adapter_model.specs.World.{World, world_after_read, world_after_store, world_after_write};
 ghost use Rattle.dma_memory.specs.HostMemory.{bytes_at};
 
 /// The interface through which a driver accesses its adapter and its memory. Each call except [`size`](Bus::size) is

@@ -1,7 +1,7 @@
 // Laws of the intervals of a driver's run.
 
 ghost use Rattle.std.specs.Prelude.{◌++◌, ℕ, Bool, List, [], All};
-ghost use Rattle.adapter.specs.World.{World};
+ghost use Rattle.adapter_model.specs.World.{World};
 ghost use Rattle.bus.specs.Law.{Happens};
 ghost use Rattle.bus.specs.Pasts.{Past, joined};
 ghost use Rattle.bus.specs.DriverState.{DriverState};

@@ -5,7 +5,7 @@ ghost use Rattle.std.specs.Cmp.Lexicographic.{pointwise};
 ghost use Rattle.std.specs.Cmp.Rules.{comparing};
 ghost use Rattle.std.specs.Prelude.{nat_eq};
 
-use adapter::{Fate, Outcome, StepKind};
+use adapter_model::{Fate, Outcome, StepKind};
 use descriptors::Frame;
 use std::alloc::{AllocError, Global};
 use std::marker::Model;

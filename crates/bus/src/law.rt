@@ -1,6 +1,6 @@
 // Laws of what may happen between two accesses, and of the accesses of a driver.
 
-ghost use Rattle.adapter.specs.World.{receive_ring, transmit_ring};
+ghost use Rattle.adapter_model.specs.World.{receive_ring, transmit_ring};
 ghost use Rattle.bus.specs.Composition.{HappeningsJoin, NothingHappens, SoundStays};
 ghost use Rattle.bus.specs.Faults.{FaultsNeverCome};
 ghost use Rattle.bus.specs.IdleRings.{HappeningsKeepIdle, IdleAfterPowerOn, IdleAfterReset, IdleRingsAreSound};

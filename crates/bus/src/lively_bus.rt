@@ -4,7 +4,7 @@ ghost use Rattle.std.specs.Prelude.{min};
 
 use crate::bus::{Bus, HonestBus};
 use crate::machine::Machine;
-use adapter::StepKind;
+use adapter_model::StepKind;
 
 /// A machine, lent to its driver. Before each access, a tick of the EEPROM and a tick of the PHY are played. No other
 /// step is played, and no frame arrives.

@@ -1,23 +1,23 @@
 // An adapter and its host's memory.
 
 ghost use Rattle.std.specs.Prelude.{◌≡◌, ◌≤◌, ◌↔◌, ◌+◌, ◌++◌, [], length, not, IfNone, IfSome, IsNone, vec_capacity};
-ghost use Rattle.adapter.specs.HostFrames.{frames_held, frames_to_send};
-ghost use Rattle.adapter.specs.Pending.{CanReadHeld, CanReadSending};
-ghost use Rattle.adapter.specs.Outcomes.{framed, oldest_queued};
-ghost use Rattle.adapter.specs.Registers.{answer_at};
-ghost use Rattle.adapter.specs.State.{IsAdapter};
-ghost use Rattle.adapter.specs.Steps.{TellsWork};
+ghost use Rattle.adapter_model.specs.HostFrames.{frames_held, frames_to_send};
+ghost use Rattle.adapter_model.specs.Pending.{CanReadHeld, CanReadSending};
+ghost use Rattle.adapter_model.specs.Outcomes.{framed, oldest_queued};
+ghost use Rattle.adapter_model.specs.Registers.{answer_at};
+ghost use Rattle.adapter_model.specs.State.{IsAdapter};
+ghost use Rattle.adapter_model.specs.Steps.{TellsWork};
 ghost use Rattle.bus.specs.Digests.{digest_of};
 ghost use Rattle.bus.specs.Trails.{Occurs};
 ghost use Rattle.bus.specs.Machines.{after_event, is_asserted};
 ghost use Rattle.bus.specs.declared.event.Access.TheVariants.{Reads, Stores, Writes};
 ghost use Rattle.bus.specs.declared.event.Event.TheVariants.{Accesses, Arrives, Steps};
-ghost use Rattle.registers.specs.Eerd.{is_pending};
-ghost use Rattle.registers.specs.Mdic.{has_work};
+ghost use Rattle.eeprom.specs.Eerd.{is_pending};
+ghost use Rattle.mdic_phy.specs.Mdic.{has_work};
 ghost use Rattle.descriptors.specs.Frames.{longest_frame};
 ghost use Rattle.dma_memory.specs.HostMemory.{bytes_at, LiesIn};
 
-use adapter::{Adapter, Fate, FrameCounts, Outcome, StepKind, WaitingFrames};
+use adapter_model::{Adapter, Fate, FrameCounts, Outcome, StepKind, WaitingFrames};
 use descriptors::Frame;
 use dma_memory::HostMemory;
 use std::hash::{DefaultHasher, Hasher};
@@ -70,7 +70,8 @@ impl Machine {
         ensures state { self.new
             ≡ after_event (Steps kind wire_free (framed result self.old.world.adapter)) self.old }
     {
-        self.adapter.step(kind, &mut self.memory, wire_free)
+        self.adapter
+            .step_unframed(kind, &mut self.memory, wire_free)
     }
 
     /// Returns the frame that a step [`TxPut`](StepKind::TxPut) puts onto a wire with room, if there is one. See

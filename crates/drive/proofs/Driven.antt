@@ -4,9 +4,9 @@ use Rattle.std.specs.Prelude.{IfOk}
 use Rattle.std.specs.Io.KnownBytes.{Appends, append_known}
 use Rattle.std.proofs.KnownBytes.{Appends-trans}
 use Rattle.std.proofs.lemmas.List.{append-nil}
-use Rattle.bus.specs.BusMembers.{Composes}
-use Rattle.bus.specs.Keeping.{Keeps}
-use Rattle.bus.specs.declared.bus.Bus.{Ghosts}
+use Rattle.adapter.specs.BusMembers.{Composes}
+use Rattle.adapter.specs.Keeping.{Keeps}
+use Rattle.adapter.specs.bus_types.bus.Bus.{Ghosts}
 use Rattle.packet_socket.specs.HostCalls.{HostReady, IsReadyHost, host_at}
 use Rattle.packet_socket.specs.HostState.{HostState}
 use Rattle.pcap_trace.specs.Format.{file_header, written}

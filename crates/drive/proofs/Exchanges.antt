@@ -10,14 +10,14 @@ use Rattle.std.specs.Prelude.{⊤, ◌↔◌, if◌then◌else◌}
 use Rattle.descriptors.specs.Frames.{is_sendable, longest_frame, shortest_sent}
 use Rattle.driver.specs.declared.transmit.SendError.TheVariants.{RingFull, TooLong, TooShort}
 use Rattle.dma_memory.specs.Layout.{size_of}
-use Rattle.bus.specs.BusMembers.{Composes}
-use Rattle.bus.specs.Keeping.{Keeps}
-use Rattle.bus.specs.Pasts.{Past, joined, nothing}
-use Rattle.bus.specs.declared.bus.Bus.{Ghosts}
-use Rattle.bus.proofs.Composition.{happens_none}
-use Rattle.bus.proofs.Keeping.{keeps-here, keeps-on}
-use Rattle.bus.specs.Calls.{FlowsTo}
-use Rattle.bus.proofs.Intervals.{flows_join}
+use Rattle.adapter.specs.BusMembers.{Composes}
+use Rattle.adapter.specs.Keeping.{Keeps}
+use Rattle.adapter.specs.Pasts.{Past, joined, nothing}
+use Rattle.adapter.specs.bus_types.bus.Bus.{Ghosts}
+use Rattle.adapter.proofs.Composition.{happens_none}
+use Rattle.adapter.proofs.Keeping.{keeps-here, keeps-on}
+use Rattle.adapter.specs.Calls.{FlowsTo}
+use Rattle.adapter.proofs.Intervals.{flows_join}
 use Rattle.driver.specs.SendSteps.{SendAnswer, accepted_by}
 use Rattle.driver.specs.declared.interrupt.Handled.{Handled}
 use Rattle.packet_socket.specs.HostActs.{OverBus, CallsOver, CallsUp, Effect, Ends, PassesStages, CallStages, Then}

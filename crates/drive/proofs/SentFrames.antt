@@ -5,8 +5,8 @@ use Rattle.std.specs.Prelude.{count_by, not, if◌then◌else◌}
 use Rattle.std.proofs.lemmas.List.{append-nil}
 use Rattle.std.proofs.lemmas.List.Sums.{sum_by_push}
 use Rattle.descriptors.specs.Frames.{is_sendable}
-use Rattle.bus.specs.BusMembers.{Composes}
-use Rattle.bus.specs.declared.bus.Bus.{Ghosts}
+use Rattle.adapter.specs.BusMembers.{Composes}
+use Rattle.adapter.specs.bus_types.bus.Bus.{Ghosts}
 use Rattle.drive.specs.Exchanging.{ExchangeMoment, Exchanges, SendsUpTo, accepted_of, accepted_of_all, is_illegal, saturated}
 use Rattle.drive.proofs.Exchanges.{exchanges-here, exchanges-on}
 

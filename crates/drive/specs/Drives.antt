@@ -3,7 +3,7 @@ use Rattle.std.specs.Prelude.{◌≡◌, ◌++◌, ℕ, List, Option, count_by, 
 use Rattle.std.specs.Io.KnownBytes.{Appends}
 use Rattle.descriptors.specs.Frames.{is_sendable}
 use Rattle.dma_memory.specs.Layout.{Counts}
-use Rattle.bus.specs.declared.bus.Bus.{Ghosts}
+use Rattle.adapter.specs.bus_types.bus.Bus.{Ghosts}
 use Rattle.packet_socket.specs.HostCalls.{HostMoment, IsReadyHost}
 use Rattle.pcap_trace.specs.Format.{written}
 use Rattle.pcap_trace.specs.declared.unit.Unit.TheVariants.{Micros}

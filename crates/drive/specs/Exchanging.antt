@@ -2,9 +2,9 @@
 use Rattle.std.specs.Prelude.{◌≡◌, ◌++◌, ◌∷◌, ◌-◌, ◌^◌, [], ℕ, Bool, List, Option, count_by, map, min, not, true, if◌then◌else◌}
 use Rattle.std.specs.Io.KnownBytes.{Appends, append_known}
 use Rattle.descriptors.specs.Frames.{is_sendable, padded}
-use Rattle.bus.specs.declared.bus.Bus.{Ghosts}
-use Rattle.bus.specs.Keeping.{Keeps}
-use Rattle.bus.specs.Pasts.{Past}
+use Rattle.adapter.specs.bus_types.bus.Bus.{Ghosts}
+use Rattle.adapter.specs.Keeping.{Keeps}
+use Rattle.adapter.specs.Pasts.{Past}
 use Rattle.packet_socket.specs.HostCalls.{Given, HostFlowsTo, HostMoment, IsReadyHost, host_did, in_world}
 use Rattle.packet_socket.specs.HostState.{HostState}
 use Rattle.drive.specs.Numbering.{number_after, packets_of}

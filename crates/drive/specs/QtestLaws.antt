@@ -5,8 +5,8 @@ use Rattle.std.specs.Io.KnownBytes.{Appends}
 use Rattle.std.proofs.KnownBytes.{Appends-nil, Appends-trans}
 use Rattle.std.proofs.lemmas.List.{append-nil}
 use Rattle.std.proofs.lemmas.List.Concat.{flat_map-append}
-use Rattle.bus.specs.declared.event.Access.{Access}
-use Rattle.bus.specs.BusMembers.{KeepsProperties}
+use Rattle.adapter.specs.bus_types.event.Access.{Access}
+use Rattle.adapter.specs.BusMembers.{KeepsProperties}
 use Rattle.drive.specs.QtestState.{Asks, AsksAll, IsSameBus, QtestState, is_never, memory_size}
 use Rattle.drive.specs.QtestRequests.{request_of, requests_of}
 

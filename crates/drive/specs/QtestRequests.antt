@@ -3,8 +3,8 @@ use Rattle.std.specs.Prelude.{◌++◌, ◌+◌, ◌%◌, ◌^◌, ℕ, List, co
 use Rattle.std.specs.Int.{to_be_bytes, w64}
 use Rattle.std.specs.List.{flat_map}
 use Rattle.hex.specs.Hex.{encode_lower}
-use Rattle.bus.specs.declared.event.Access.{Access}
-use Rattle.bus.specs.declared.event.Access.TheVariants.{Loads, Reads, Stores, Writes}
+use Rattle.adapter.specs.bus_types.event.Access.{Access}
+use Rattle.adapter.specs.bus_types.event.Access.TheVariants.{Loads, Reads, Stores, Writes}
 
 -- a space, 0x, and a number in 16 lower-case hexadecimal digits
 unfoldable pub number_text : ℕ → List ℕ

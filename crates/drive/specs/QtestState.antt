@@ -1,7 +1,7 @@
 -- A bus to another program, as plain data, and what accesses do to it (our choice).
 use Rattle.std.specs.Prelude.{◌≡◌, ℕ, List, Bool, Option, None, OnSome}
 use Rattle.std.specs.Io.KnownBytes.{Appends}
-use Rattle.bus.specs.declared.event.Access.{Access}
+use Rattle.adapter.specs.bus_types.event.Access.{Access}
 use Rattle.drive.specs.QtestRequests.{request_of, requests_of}
 use Rattle.drive.specs.declared.bus_fault.BusFault.{BusFault}
 

@@ -4,7 +4,7 @@ ghost use Rattle.std.specs.Prelude.{◌≡◌};
 ghost use Rattle.drive.specs.declared.drive_error.DriveError.TheVariants as errors;
 
 use crate::BusFault;
-use bring_up::InitError;
+use driver::InitError;
 use pcap_trace::WriteError;
 use std::alloc::AllocError;
 use thiserror::Error;

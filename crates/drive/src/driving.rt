@@ -2,7 +2,7 @@
 
 ghost use Rattle.std.specs.Prelude.{◌≡◌, ◌<◌, ◌≤◌, IfOk};
 ghost use Rattle.dma_memory.specs.Layout.{size_of};
-ghost use Rattle.bus.specs.Keeping.{Keeps};
+ghost use Rattle.adapter.specs.Keeping.{Keeps};
 ghost use Rattle.bring_up.specs.Configuration.{configured_counts};
 ghost use Rattle.drive.specs.Drives.{Drives, layout_counts};
 ghost use Rattle.packet_socket.specs.HostCalls.{HostReady};
@@ -10,7 +10,7 @@ ghost use Rattle.packet_socket.specs.HostCalls.{HostReady};
 use crate::exchange::Exchange;
 use crate::{BusFault, DriveCounts, DriveError, DriveLimits, DriveRings, WatchedBus};
 use arrayvec::ArrayVec;
-use bring_up::{Config, InitError};
+use driver::{Config, InitError};
 use packet_socket::{Host, SocketKind};
 use pcap_trace::{Frames, RecordWriter, Sink, Unit};
 use std::alloc::Global;

@@ -3,7 +3,7 @@
 ghost use Rattle.std.specs.Prelude.{◌≡◌, ◌<◌, ◌≤◌, ◌+◌, [], List, ℕ, Option, IfOk, OnOk, if◌then◌else◌};
 ghost use Rattle.descriptors.specs.Frames.{is_sendable};
 ghost use Rattle.dma_memory.specs.Layout.{size_of};
-ghost use Rattle.bus.specs.Keeping.{Keeps};
+ghost use Rattle.adapter.specs.Keeping.{Keeps};
 ghost use Rattle.drive.specs.Exchanging.{Exchanges, SendsFront, accepted_of, exchange_at, moment_of, saturated};
 
 use crate::{DriveCounts, DriveError, DriveLimits, WatchedBus};

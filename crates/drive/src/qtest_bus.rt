@@ -2,15 +2,15 @@
 
 ghost use Rattle.std.specs.Prelude.{◌≡◌, None, OnOk, false, length};
 ghost use Rattle.std.specs.Io.KnownBytes.{Appends};
-ghost use Rattle.bus.specs.BusMembers.{KeepsProperties};
-ghost use Rattle.bus.specs.declared.event.Access.TheVariants.{Loads, Reads, Stores, Writes};
+ghost use Rattle.adapter.specs.BusMembers.{KeepsProperties};
+ghost use Rattle.adapter.specs.bus_types.event.Access.TheVariants.{Loads, Reads, Stores, Writes};
 ghost use Rattle.drive.specs.QtestState.{Asks, HasAsked};
 ghost use Rattle.drive.specs.QtestRequests.{request_of};
 
 use crate::BusFault;
 use crate::qtest_answers::Answers;
 use crate::qtest_requests::Requests;
-use bus::Bus;
+use adapter::Bus;
 use std::alloc::Global;
 use std::io::{BufRead, Write};
 use std::marker::Model;
@@ -199,7 +199,7 @@ impl<R: BufRead, W: Write> QtestBus<R, W> {
 impl<R: BufRead, W: Write> Bus for QtestBus<R, W> {
     ghost use Rattle.std.specs.Prelude.{[], ⊤};
     ghost use Rattle.adapter.specs.Registers.{new_adapter};
-    ghost use Rattle.registers.specs.declared.phy.Link.TheVariants.{Never};
+    ghost use Rattle.mdic_phy.specs.declared.phy.Link.TheVariants.{Never};
     ghost use Rattle.drive.specs.QtestLaws.{asks_here, asks_on};
     ghost use Rattle.drive.specs.QtestState.{AsksAll, is_never, memory_size};
 

@@ -1,7 +1,7 @@
 // A bus that reports its interrupt line.
 
 use crate::{BusFault, QtestBus};
-use bus::Bus;
+use adapter::Bus;
 use std::io::{BufRead, Write};
 
 /// A bus that reports the adapter's interrupt line, and that may stop. The contract states nothing of these reports.

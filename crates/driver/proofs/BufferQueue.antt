@@ -8,13 +8,13 @@ use Rattle.dma_memory.specs.OwnersLaws.{copies-append, copies-cons, copies-push}
 use Rattle.circular_buffer.specs.Buffer.{Buffer, buffer, keep_last}
 use Rattle.descriptors.specs.QueueLaws.{keep_last-room}
 use Rattle.std.proofs.Math.Seq.{drop-length, take-length}
-use Rattle.bus.specs.declared.event.Access.TheVariants.{Writes}
-use Rattle.bus.specs.Calls.{tail_write}
+use Rattle.adapter.specs.bus_types.event.Access.TheVariants.{Writes}
+use Rattle.adapter.specs.Calls.{tail_write}
 use Rattle.std.proofs.lemmas.List.{drop-append-le, length-take-le, take-append-drop, take-append-le}
 use Rattle.descriptors.specs.RingLaws.{place}
-use Rattle.bus.proofs.Owners.{owners-count}
-use Rattle.bus.proofs.Places.{place-below, place-next}
-use Rattle.bus.specs.DriverState.{DriverState, next_receive, owners, with_owners}
+use Rattle.adapter.proofs.Owners.{owners-count}
+use Rattle.adapter.proofs.Places.{place-below, place-next}
+use Rattle.adapter.specs.DriverState.{DriverState, next_receive, owners, with_owners}
 use Rattle.driver.specs.InsideDriver.{HasReceiveSide, driver_state_of}
 use Rattle.driver.specs.declared.driver.Driver.TheInside.{Inside}
 

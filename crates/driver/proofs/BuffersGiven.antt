@@ -4,8 +4,8 @@ use Rattle.std.proofs.lemmas.List.{map-append}
 use Rattle.dma_memory.specs.Owners.{HasNoSecondOwner, HaveSameNumbers, copies}
 use Rattle.dma_memory.specs.OwnersLaws.{below_from_if_below, copies-append, copies-cons, copies-itself, copies-push, if_below-most}
 use Rattle.dma_memory.specs.Numbers.{Numbers}
-use Rattle.bus.proofs.Owners.{owners-count}
-use Rattle.bus.specs.DriverState.{owners}
+use Rattle.adapter.proofs.Owners.{owners-count}
+use Rattle.adapter.specs.DriverState.{owners}
 use Rattle.driver.specs.InsideDriver.{driver_state_of}
 use Rattle.driver.specs.Parts.{buffers_in}
 use Rattle.driver.specs.declared.driver.Driver.TheInside.{Inside}

@@ -11,16 +11,16 @@ use Rattle.descriptors.specs.Ring.{address_of, distance_of, offered_places}
 use Rattle.descriptors.specs.RingLaws.{distance-forward, length-places, place, place-distance}
 use Rattle.adapter.specs.HostFrames.{frames_held}
 use Rattle.adapter.specs.World.{World, receive_ring}
-use Rattle.bus.specs.declared.bus.Bus.{Ghosts}
-use Rattle.bus.specs.declared.event.Access.TheVariants.{Writes}
-use Rattle.bus.proofs.WaitingRings.{all-offered, holds-none}
-use Rattle.bus.proofs.DriverAccesses.{ran_by-same}
-use Rattle.bus.proofs.Owners.{owners-count}
-use Rattle.bus.specs.declared.event.Access.{Access}
-use Rattle.bus.specs.Calls.{IsReadyOver, Moment, Ran, at, only, stores_from}
-use Rattle.bus.specs.Beginnings.{new_driver}
-use Rattle.bus.specs.DriverState.{DriverSetup, DriverState, holding, owners, receive_slot, with_owners}
-use Rattle.bus.specs.ReadyDrivers.{Ready}
+use Rattle.adapter.specs.bus_types.bus.Bus.{Ghosts}
+use Rattle.adapter.specs.bus_types.event.Access.TheVariants.{Writes}
+use Rattle.adapter.proofs.WaitingRings.{all-offered, holds-none}
+use Rattle.adapter.proofs.DriverAccesses.{ran_by-same}
+use Rattle.adapter.proofs.Owners.{owners-count}
+use Rattle.adapter.specs.bus_types.event.Access.{Access}
+use Rattle.adapter.specs.Calls.{IsReadyOver, Moment, Ran, at, only, stores_from}
+use Rattle.adapter.specs.Beginnings.{new_driver}
+use Rattle.adapter.specs.DriverState.{DriverSetup, DriverState, holding, owners, receive_slot, with_owners}
+use Rattle.adapter.specs.ReadyDrivers.{Ready}
 use Rattle.bring_up.specs.ClearedDescriptors.{clears, clears_from}
 use Rattle.driver.specs.Initialisation.{first_accesses}
 use Rattle.driver.specs.Resetting.{OffersFree, free_accesses}

@@ -3,12 +3,12 @@ use Rattle.std.proofs.Common.{false, ◌≡◌, ◌<◌, ◌+◌, ◌-◌, ◌++
 use Rattle.std.proofs.Common.{refl, sym, ap, subst, ◌∙◌, arith}
 use Rattle.dma_memory.specs.Owners.{copies}
 use Rattle.descriptors.specs.RingLaws.{distance-forward, place, place-distance}
-use Rattle.bus.specs.Keeping.{Keeps}
-use Rattle.bus.specs.declared.bus.Bus.{Ghosts}
-use Rattle.bus.specs.declared.event.Access.TheVariants.{Writes}
-use Rattle.bus.proofs.DriverAccesses.{ran_by-join, ran_by-same}
-use Rattle.bus.specs.Calls.{IsReadyOver, Ran, Runs, at, only, stores_from}
-use Rattle.bus.specs.DriverState.{DriverState, holding, next_receive, receive_slot, with_owners}
+use Rattle.adapter.specs.Keeping.{Keeps}
+use Rattle.adapter.specs.bus_types.bus.Bus.{Ghosts}
+use Rattle.adapter.specs.bus_types.event.Access.TheVariants.{Writes}
+use Rattle.adapter.proofs.DriverAccesses.{ran_by-join, ran_by-same}
+use Rattle.adapter.specs.Calls.{IsReadyOver, Ran, Runs, at, only, stores_from}
+use Rattle.adapter.specs.DriverState.{DriverState, holding, next_receive, receive_slot, with_owners}
 use Rattle.bring_up.proofs.Steps.{IntervalsJoin}
 use Rattle.bring_up.specs.ClearedDescriptors.{clears_from}
 use Rattle.driver.specs.RefillSteps.{Stages}

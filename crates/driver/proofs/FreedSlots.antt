@@ -9,21 +9,21 @@ use Rattle.dma_memory.specs.Layout.{Counts}
 use Rattle.descriptors.specs.Ring.{slots_from}
 use Rattle.descriptors.specs.RingLaws.{next-below, place}
 use Rattle.adapter.specs.Slots.{written_back_slots}
-use Rattle.bus.specs.Law.{Acts}
-use Rattle.bus.specs.Pasts.{Past, joined, nothing}
-use Rattle.bus.specs.Keeping.{Keeps, view_of}
-use Rattle.bus.specs.declared.bus.Bus.{Ghosts}
-use Rattle.bus.specs.declared.event.Access.{Access}
-use Rattle.bus.specs.declared.event.Access.TheVariants.{Loads}
-use Rattle.bus.proofs.DriverAccesses.{ran_by-stays}
-use Rattle.bus.proofs.Calls.{ran-on, ready-on}
-use Rattle.bus.proofs.Places.{place-next}
-use Rattle.bus.proofs.DriverAccesses.{RanWith}
-use Rattle.bus.proofs.TransmitRuns.{run-frees, run-waits}
-use Rattle.bus.specs.DriverState.{DriverState, holding, transmit_slot, transmit_tail}
-use Rattle.bus.specs.Calls.{Moment, Ran, WhereUp, at, held_at, only, transmit_loads}
-use Rattle.bus.specs.ReadyDrivers.{Ready}
-use Rattle.bus.specs.TransmitSteps.{with_freed}
+use Rattle.adapter.specs.Law.{Acts}
+use Rattle.adapter.specs.Pasts.{Past, joined, nothing}
+use Rattle.adapter.specs.Keeping.{Keeps, view_of}
+use Rattle.adapter.specs.bus_types.bus.Bus.{Ghosts}
+use Rattle.adapter.specs.bus_types.event.Access.{Access}
+use Rattle.adapter.specs.bus_types.event.Access.TheVariants.{Loads}
+use Rattle.adapter.proofs.DriverAccesses.{ran_by-stays}
+use Rattle.adapter.proofs.Calls.{ran-on, ready-on}
+use Rattle.adapter.proofs.Places.{place-next}
+use Rattle.adapter.proofs.DriverAccesses.{RanWith}
+use Rattle.adapter.proofs.TransmitRuns.{run-frees, run-waits}
+use Rattle.adapter.specs.DriverState.{DriverState, holding, transmit_slot, transmit_tail}
+use Rattle.adapter.specs.Calls.{Moment, Ran, WhereUp, at, held_at, only, transmit_loads}
+use Rattle.adapter.specs.ReadyDrivers.{Ready}
+use Rattle.adapter.specs.TransmitSteps.{with_freed}
 use Rattle.driver.specs.InsideDriver.{IsSending}
 use Rattle.driver.specs.SendSteps.{FreesOldest, LooksBack, Reclaims, oldest_loads, slots_looked_at, with_transmit_slots}
 

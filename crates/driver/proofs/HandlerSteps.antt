@@ -13,20 +13,20 @@ use Rattle.descriptors.specs.RingLaws.{place}
 use Rattle.rx_engine.specs.Pieces.{parts}
 use Rattle.adapter.specs.HostFrames.{finished_pieces}
 use Rattle.adapter.specs.World.{World}
-use Rattle.bus.specs.Pasts.{Past, joined}
-use Rattle.bus.specs.declared.event.Access.{Access}
-use Rattle.bus.specs.declared.event.Access.TheVariants.{Reads}
-use Rattle.bus.specs.declared.bus.Bus.{Ghosts}
-use Rattle.bus.proofs.DriverAccesses.{ran_by-join}
-use Rattle.bus.proofs.Calls.{ran-on}
-use Rattle.bus.proofs.Places.{place-add}
-use Rattle.bus.proofs.Intervals.{flows_join, work_kept}
-use Rattle.bus.proofs.TakenSlots.{parts_are_few}
-use Rattle.bus.specs.Calls.{GoesTo, HasNoForgottenWork, Moment, Ran, ReadsCauses, at, call_did, driver_did, driver_in}
-use Rattle.bus.specs.Calls.{frames_ended, held_at, in_world_of, only}
-use Rattle.bus.specs.Calls.{receive_loads, stores_from, tail_write, takes_from, missed_added}
-use Rattle.bus.specs.DriverState.{DriverState, HandedOut, frame_of, holding, next_receive, piece_numbers, with_owners}
-use Rattle.bus.specs.ReadyDrivers.{ReadyWith}
+use Rattle.adapter.specs.Pasts.{Past, joined}
+use Rattle.adapter.specs.bus_types.event.Access.{Access}
+use Rattle.adapter.specs.bus_types.event.Access.TheVariants.{Reads}
+use Rattle.adapter.specs.bus_types.bus.Bus.{Ghosts}
+use Rattle.adapter.proofs.DriverAccesses.{ran_by-join}
+use Rattle.adapter.proofs.Calls.{ran-on}
+use Rattle.adapter.proofs.Places.{place-add}
+use Rattle.adapter.proofs.Intervals.{flows_join, work_kept}
+use Rattle.adapter.proofs.TakenSlots.{parts_are_few}
+use Rattle.adapter.specs.Calls.{GoesTo, HasNoForgottenWork, Moment, Ran, ReadsCauses, at, call_did, driver_did, driver_in}
+use Rattle.adapter.specs.Calls.{frames_ended, held_at, in_world_of, only}
+use Rattle.adapter.specs.Calls.{receive_loads, stores_from, tail_write, takes_from, missed_added}
+use Rattle.adapter.specs.DriverState.{DriverState, HandedOut, frame_of, holding, next_receive, piece_numbers, with_owners}
+use Rattle.adapter.specs.ReadyDrivers.{ReadyWith}
 use Rattle.driver.specs.HandlerSteps.{HandlesIt, Scene, TakesAll, Works, held_in, moment, offering_accesses, taking_accesses}
 use Rattle.driver.specs.Looks.{IsLook}
 use Rattle.driver.specs.Parts.{joined_frames, pieces_of}

@@ -11,8 +11,8 @@ use Rattle.arrayvec.specs.declared.array_vec.ArrayVec.{ArrayVec}
 use Rattle.registers.specs.Counting.{greatest_count}
 use Rattle.dma_memory.specs.Layout.{Counts, receive_buffer_bytes}
 use Rattle.descriptors.specs.RingLaws.{place}
-use Rattle.rx_engine.specs.Addresses.{IsAddress}
-use Rattle.registers.specs.Image.{HasRightSum, address_bytes}
+use Rattle.rx_filter.specs.Addresses.{IsAddress}
+use Rattle.eeprom.specs.Image.{HasRightSum, address_bytes}
 use Rattle.rx_engine.specs.Pieces.{frames_of}
 use Rattle.adapter.specs.HostFrames.{frames_held, frames_to_send, piece_in}
 use Rattle.adapter.specs.Rings.{new_ring}
@@ -20,24 +20,24 @@ use Rattle.adapter.specs.Slots.{finished}
 use Rattle.adapter.specs.TableLaws.{register_at-there}
 use Rattle.adapter.specs.KnownRing.{KnowsRing}
 use Rattle.adapter.specs.World.{World, transmit_ring}
-use Rattle.adapter.specs.declared.ring.RingRegisters.{RingRegisters}
-use Rattle.adapter.specs.declared.register.Register.TheVariants.{Rctl, Receive}
-use Rattle.adapter.specs.declared.register.RingRegister.TheVariants.{Tail}
-use Rattle.bus.specs.Link.{HasLink, KeepsLink, LeavesPhy}
-use Rattle.bus.specs.Pasts.{Past, joined, nothing}
-use Rattle.bus.specs.AdaptersAtRest.{NoFrame}
-use Rattle.bus.specs.Settings.{AreSet, IsNotReceiveControl, WhileOff, LeavesReceiver, Settings, Write, settings_after_all, settings_of}
-use Rattle.bus.specs.Settings.{writes_in}
-use Rattle.bus.specs.declared.bus.Bus.{Ghosts}
-use Rattle.bus.specs.declared.event.Access.{Access}
-use Rattle.bus.proofs.Lists.{all-left, all-none, all-right, append-empty}
-use Rattle.bus.proofs.Settings.{settings-append, writes-append}
-use Rattle.bus.proofs.WaitingRings.{holds-none}
-use Rattle.bus.proofs.DriverAccesses.{ran_by-join}
-use Rattle.bus.specs.Calls.{GoesTo, Ran, at, driver_did, driver_in, only, stores_from}
-use Rattle.bus.specs.Beginnings.{new_driver}
-use Rattle.bus.specs.DriverState.{DriverSetup, DriverState, transmit_tail}
-use Rattle.bus.specs.ReadyDrivers.{ReadyWith}
+use Rattle.adapter.specs.model_types.ring.RingRegisters.{RingRegisters}
+use Rattle.adapter.specs.model_types.register.Register.TheVariants.{Rctl, Receive}
+use Rattle.adapter.specs.model_types.register.RingRegister.TheVariants.{Tail}
+use Rattle.adapter.specs.Link.{HasLink, KeepsLink, LeavesPhy}
+use Rattle.adapter.specs.Pasts.{Past, joined, nothing}
+use Rattle.adapter.specs.AdaptersAtRest.{NoFrame}
+use Rattle.adapter.specs.Settings.{AreSet, IsNotReceiveControl, WhileOff, LeavesReceiver, Settings, Write, settings_after_all, settings_of}
+use Rattle.adapter.specs.Settings.{writes_in}
+use Rattle.adapter.specs.bus_types.bus.Bus.{Ghosts}
+use Rattle.adapter.specs.bus_types.event.Access.{Access}
+use Rattle.adapter.proofs.Lists.{all-left, all-none, all-right, append-empty}
+use Rattle.adapter.proofs.Settings.{settings-append, writes-append}
+use Rattle.adapter.proofs.WaitingRings.{holds-none}
+use Rattle.adapter.proofs.DriverAccesses.{ran_by-join}
+use Rattle.adapter.specs.Calls.{GoesTo, Ran, at, driver_did, driver_in, only, stores_from}
+use Rattle.adapter.specs.Beginnings.{new_driver}
+use Rattle.adapter.specs.DriverState.{DriverSetup, DriverState, transmit_tail}
+use Rattle.adapter.specs.ReadyDrivers.{ReadyWith}
 use Rattle.bring_up.specs.ClearedDescriptors.{clears_from}
 use Rattle.bring_up.specs.Configuration.{IsValidIn, configured_counts, vlans_of}
 use Rattle.bring_up.specs.ConfiguredAdapters.{HasSetup, IsConfigured, names_vlans, setup_of, writes_before_rings}

@@ -8,18 +8,18 @@ use Rattle.std.proofs.lemmas.List.{take_all, take_more}
 use Rattle.std.proofs.lemmas.List.Sums.{sum_by-append, sum_by_push}
 use Rattle.dma_memory.specs.HostMemory.{bytes_at}
 use Rattle.dma_memory.specs.Layout.{Counts}
-use Rattle.bus.proofs.Lists.{all-head, all-right}
-use Rattle.bus.specs.Keeping.{view_of}
-use Rattle.bus.specs.Law.{Acts}
-use Rattle.bus.specs.Pasts.{Past, joined}
-use Rattle.bus.specs.declared.bus.Bus.{Ghosts}
-use Rattle.bus.specs.declared.event.Access.{Access}
-use Rattle.bus.specs.declared.event.Access.TheVariants.{Loads}
-use Rattle.bus.proofs.Calls.{ran-on}
-use Rattle.bus.proofs.ReceiveAccesses.{frame-read, ran_by-reads}
-use Rattle.bus.specs.Calls.{Ran, at, only}
-use Rattle.bus.specs.DriverState.{DriverState, HandedOut, buffer_at, frame_of}
-use Rattle.bus.specs.ReadyDrivers.{ReadyWith}
+use Rattle.adapter.proofs.Lists.{all-head, all-right}
+use Rattle.adapter.specs.Keeping.{view_of}
+use Rattle.adapter.specs.Law.{Acts}
+use Rattle.adapter.specs.Pasts.{Past, joined}
+use Rattle.adapter.specs.bus_types.bus.Bus.{Ghosts}
+use Rattle.adapter.specs.bus_types.event.Access.{Access}
+use Rattle.adapter.specs.bus_types.event.Access.TheVariants.{Loads}
+use Rattle.adapter.proofs.Calls.{ran-on}
+use Rattle.adapter.proofs.ReceiveAccesses.{frame-read, ran_by-reads}
+use Rattle.adapter.specs.Calls.{Ran, at, only}
+use Rattle.adapter.specs.DriverState.{DriverState, HandedOut, buffer_at, frame_of}
+use Rattle.adapter.specs.ReadyDrivers.{ReadyWith}
 use Rattle.driver.specs.Parts.{IsWholeFrame, lengths_in, part_loads, part_of, parts_of}
 use Rattle.driver.specs.declared.parts.Part.{Part}
 use Rattle.driver.specs.declared.receiver.Received.{Received}

@@ -3,23 +3,23 @@ use Rattle.std.proofs.Common.{◌≡◌, ◌+◌, ◌++◌, [], ℕ, List, lengt
 use Rattle.std.proofs.lemmas.List.{append-nil, map-append}
 use Rattle.std.specs.List.{All}
 use Rattle.std.proofs.lemmas.List.Elements.{All-append}
-use Rattle.bus.proofs.Lists.{all-left, all-right}
-use Rattle.bus.proofs.TakenSlots.{buffers_can_come_back}
+use Rattle.adapter.proofs.Lists.{all-left, all-right}
+use Rattle.adapter.proofs.TakenSlots.{buffers_can_come_back}
 use Rattle.dma_memory.specs.Owners.{HaveSameNumbers, copies}
 use Rattle.dma_memory.specs.OwnersLaws.{copies-append}
 use Rattle.descriptors.specs.RingLaws.{place}
-use Rattle.bus.specs.Keeping.{Keeps}
-use Rattle.bus.specs.Pasts.{Past, joined, nothing}
-use Rattle.bus.specs.declared.event.Access.{Access}
-use Rattle.bus.proofs.DriverAccesses.{ran_by-itself, ran_by-same, ran_by-stays}
-use Rattle.bus.proofs.Calls.{ran-on, ready-on}
-use Rattle.bus.proofs.Owners.{owners-count}
-use Rattle.bus.proofs.Places.{place-add}
-use Rattle.bus.proofs.ReceiveAccesses.{stores-append}
-use Rattle.bus.specs.Calls.{Moment, Ran, Runs, WhereReady, at, held_at, only, stores_from, tail_write}
-use Rattle.bus.specs.DriverState.{DriverState, HandedOut, holding, next_receive, piece_numbers, owners, with_owners}
-use Rattle.bus.specs.ReadyDrivers.{Stands}
-use Rattle.bus.specs.declared.bus.Bus.{Ghosts}
+use Rattle.adapter.specs.Keeping.{Keeps}
+use Rattle.adapter.specs.Pasts.{Past, joined, nothing}
+use Rattle.adapter.specs.bus_types.event.Access.{Access}
+use Rattle.adapter.proofs.DriverAccesses.{ran_by-itself, ran_by-same, ran_by-stays}
+use Rattle.adapter.proofs.Calls.{ran-on, ready-on}
+use Rattle.adapter.proofs.Owners.{owners-count}
+use Rattle.adapter.proofs.Places.{place-add}
+use Rattle.adapter.proofs.ReceiveAccesses.{stores-append}
+use Rattle.adapter.specs.Calls.{Moment, Ran, Runs, WhereReady, at, held_at, only, stores_from, tail_write}
+use Rattle.adapter.specs.DriverState.{DriverState, HandedOut, holding, next_receive, piece_numbers, owners, with_owners}
+use Rattle.adapter.specs.ReadyDrivers.{Stands}
+use Rattle.adapter.specs.bus_types.bus.Bus.{Ghosts}
 use Rattle.driver.specs.Parts.{buffers_in}
 use Rattle.driver.specs.declared.parts.Part.{Part}
 use Rattle.driver.specs.RefillSteps.{Refills, Stages, WhereHeld}

@@ -2,8 +2,8 @@
 use Rattle.std.proofs.Common.{◌≡◌, ◌++◌, [], ℕ, List, ap, arith}
 use Rattle.dma_memory.specs.Owners.{HaveSameNumbers, copies}
 use Rattle.dma_memory.specs.OwnersLaws.{copies-append}
-use Rattle.bus.proofs.Owners.{owners-count}
-use Rattle.bus.specs.DriverState.{DriverState, HandedOut, piece_numbers, owners, with_owners}
+use Rattle.adapter.proofs.Owners.{owners-count}
+use Rattle.adapter.specs.DriverState.{DriverState, HandedOut, piece_numbers, owners, with_owners}
 
 pub reset-owners : (d0 d3 : DriverState) (pool numbers left : List ℕ) → d0.handed_out ≡ []
     → HaveSameNumbers (d0.pool ++ (d0.buffers ++ d0.staged)) pool → HaveSameNumbers pool (numbers ++ left)

@@ -6,33 +6,33 @@ use Rattle.std.proofs.lemmas.List.{append-nil}
 use Rattle.std.proofs.lemmas.List.Elements.{All-cons}
 use Rattle.dma_memory.specs.Layout.{Counts, IsAllowed, size_of}
 use Rattle.dma_memory.specs.Owners.{HaveSameNumbers}
-use Rattle.rx_engine.specs.NumberTables.{HasNumbers, numbers_of_groups}
+use Rattle.rx_filter.specs.NumberTables.{HasNumbers, numbers_of_groups}
 use Rattle.rx_engine.specs.Pieces.{frames_of}
-use Rattle.rx_engine.specs.Registers.{FilterRegisters}
+use Rattle.rx_filter.specs.Registers.{FilterRegisters}
 use Rattle.adapter.specs.HostFrames.{frames_held, frames_to_send, piece_in}
 use Rattle.adapter.specs.Rings.{new_ring}
 use Rattle.adapter.specs.Table.{IsInTable, row_of}
 use Rattle.adapter.specs.TableLaws.{register_at-there}
 use Rattle.adapter.specs.World.{World}
-use Rattle.adapter.specs.declared.register.Register.{Register}
-use Rattle.adapter.specs.declared.register.Register.TheVariants.{Ctrl, Pba, Rctl, Receive}
-use Rattle.adapter.specs.declared.register.RingRegister.TheVariants.{Tail}
-use Rattle.bus.specs.AdaptersAtRest.{IsAtRest, NoFrame}
-use Rattle.bus.specs.Link.{HasLink, IsNotOfPhy, LeavesPhy}
-use Rattle.bus.specs.Pasts.{Past, joined, nothing}
-use Rattle.bus.specs.Settings.{AreSet, IsNotReceiveControl, IsOff, LeavesReceiver, Settings, Write}
-use Rattle.bus.specs.Settings.{settings_after_all, settings_of, writes_in}
-use Rattle.bus.specs.declared.bus.Bus.{Ghosts}
-use Rattle.bus.specs.declared.event.Access.{Access}
-use Rattle.bus.specs.declared.event.Access.TheVariants.{Writes}
-use Rattle.bus.proofs.Lists.{all-left, all-none, all-right, append-empty}
-use Rattle.bus.proofs.Settings.{settings-append, settings_join, writes-append}
-use Rattle.bus.proofs.DriverAccesses.{follows-join}
-use Rattle.bus.proofs.Intervals.{misses-stay}
-use Rattle.bus.specs.Calls.{IsRefilled, Ran, at, driver_in, only, stores_from, missed_added}
-use Rattle.bus.specs.DriverState.{DriverSetup, DriverState, receive_slot, with_owners}
-use Rattle.bus.specs.ReadyDrivers.{Ready, ReadyWith, Stands}
-use Rattle.bus.specs.Resets.{RestsWith, reset_driver}
+use Rattle.adapter.specs.model_types.register.Register.{Register}
+use Rattle.adapter.specs.model_types.register.Register.TheVariants.{Ctrl, Pba, Rctl, Receive}
+use Rattle.adapter.specs.model_types.register.RingRegister.TheVariants.{Tail}
+use Rattle.adapter.specs.AdaptersAtRest.{IsAtRest, NoFrame}
+use Rattle.adapter.specs.Link.{HasLink, IsNotOfPhy, LeavesPhy}
+use Rattle.adapter.specs.Pasts.{Past, joined, nothing}
+use Rattle.adapter.specs.Settings.{AreSet, IsNotReceiveControl, IsOff, LeavesReceiver, Settings, Write}
+use Rattle.adapter.specs.Settings.{settings_after_all, settings_of, writes_in}
+use Rattle.adapter.specs.bus_types.bus.Bus.{Ghosts}
+use Rattle.adapter.specs.bus_types.event.Access.{Access}
+use Rattle.adapter.specs.bus_types.event.Access.TheVariants.{Writes}
+use Rattle.adapter.proofs.Lists.{all-left, all-none, all-right, append-empty}
+use Rattle.adapter.proofs.Settings.{settings-append, settings_join, writes-append}
+use Rattle.adapter.proofs.DriverAccesses.{follows-join}
+use Rattle.adapter.proofs.Intervals.{misses-stay}
+use Rattle.adapter.specs.Calls.{IsRefilled, Ran, at, driver_in, only, stores_from, missed_added}
+use Rattle.adapter.specs.DriverState.{DriverSetup, DriverState, receive_slot, with_owners}
+use Rattle.adapter.specs.ReadyDrivers.{Ready, ReadyWith, Stands}
+use Rattle.adapter.specs.Resets.{RestsWith, reset_driver}
 use Rattle.bring_up.proofs.ConfiguredSettings.{all-set, before-rings, filter_written}
 use Rattle.bring_up.proofs.DriverAccesses.{asked-still}
 use Rattle.bring_up.proofs.DriverResets.{rests-sets}

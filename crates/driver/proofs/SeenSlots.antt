@@ -21,19 +21,19 @@ use Rattle.rx_engine.specs.Pieces.Piece.{Last, Part}
 use Rattle.adapter.specs.HostFrames.{finished_pieces, piece_in, pieces_in_slots}
 use Rattle.adapter.specs.Slots.{finished, slots_in_work as slot_in_work, offered}
 use Rattle.adapter.specs.World.{World, receive_ring}
-use Rattle.bus.proofs.Lists.{all-head, all-left, all-none, all-right, all-weaker}
-use Rattle.bus.specs.Pasts.{Past, joined, nothing}
-use Rattle.bus.specs.declared.bus.Bus.{Ghosts}
-use Rattle.bus.specs.declared.event.Access.{Access}
-use Rattle.bus.proofs.DriverAccesses.{ran_by-stays}
-use Rattle.bus.proofs.Calls.{ran-on}
-use Rattle.bus.proofs.ReceiveAccesses.{loads-push}
-use Rattle.bus.proofs.SeenSlots.{outstanding-slots}
-use Rattle.bus.proofs.TakenSlots.{parts_are_few}
-use Rattle.bus.specs.Calls.{Ran, at, only, receive_loads}
-use Rattle.bus.specs.DriverState.{DriverState, receive_slot}
-use Rattle.bus.specs.OldestSlot.{IsSeen, LooksAtSlot, ShowsSlot}
-use Rattle.bus.specs.ReadyDrivers.{ReadyWith}
+use Rattle.adapter.proofs.Lists.{all-head, all-left, all-none, all-right, all-weaker}
+use Rattle.adapter.specs.Pasts.{Past, joined, nothing}
+use Rattle.adapter.specs.bus_types.bus.Bus.{Ghosts}
+use Rattle.adapter.specs.bus_types.event.Access.{Access}
+use Rattle.adapter.proofs.DriverAccesses.{ran_by-stays}
+use Rattle.adapter.proofs.Calls.{ran-on}
+use Rattle.adapter.proofs.ReceiveAccesses.{loads-push}
+use Rattle.adapter.proofs.SeenSlots.{outstanding-slots}
+use Rattle.adapter.proofs.TakenSlots.{parts_are_few}
+use Rattle.adapter.specs.Calls.{Ran, at, only, receive_loads}
+use Rattle.adapter.specs.DriverState.{DriverState, receive_slot}
+use Rattle.adapter.specs.OldestSlot.{IsSeen, LooksAtSlot, ShowsSlot}
+use Rattle.adapter.specs.ReadyDrivers.{ReadyWith}
 use Rattle.driver.specs.Looks.{FindsFrame, FindsNoFrame, IsPartSize, IsSoundPart, ends}
 use Rattle.driver.specs.Parts.{AreFull, FillBuffers, FitIntoBuffers, IsFrameSize}
 use Rattle.driver.specs.declared.look.Run.{Run}

@@ -3,14 +3,14 @@ use Rattle.std.proofs.Common.{true, ◌≡◌, ◌<◌, ◌+◌, ◌-◌, Err, O
 use Rattle.dma_memory.specs.Layout.{Counts}
 use Rattle.descriptors.specs.RingLaws.{place}
 use Rattle.adapter.specs.Slots.{written_back_slots}
-use Rattle.bus.specs.Pasts.{Past, joined}
-use Rattle.bus.specs.declared.bus.Bus.{Ghosts}
-use Rattle.bus.specs.declared.event.Access.{Access}
-use Rattle.bus.specs.declared.event.Access.TheVariants.{Stores, Writes}
-use Rattle.bus.proofs.Calls.{ran-on}
-use Rattle.bus.proofs.Places.{place-below, place-next, place-same}
-use Rattle.bus.specs.DriverState.{DriverState, transmit_slot, transmit_tail}
-use Rattle.bus.specs.Calls.{IsReadyOver, Moment, Ran, send_accesses, transmit_buffer, whole_descriptor}
+use Rattle.adapter.specs.Pasts.{Past, joined}
+use Rattle.adapter.specs.bus_types.bus.Bus.{Ghosts}
+use Rattle.adapter.specs.bus_types.event.Access.{Access}
+use Rattle.adapter.specs.bus_types.event.Access.TheVariants.{Stores, Writes}
+use Rattle.adapter.proofs.Calls.{ran-on}
+use Rattle.adapter.proofs.Places.{place-below, place-next, place-same}
+use Rattle.adapter.specs.DriverState.{DriverState, transmit_slot, transmit_tail}
+use Rattle.adapter.specs.Calls.{IsReadyOver, Moment, Ran, send_accesses, transmit_buffer, whole_descriptor}
 use Rattle.driver.specs.InsideDriver.{IsSending}
 use Rattle.driver.specs.SendSteps.{IsTransmitAnswer, Reclaims, Sends, accesses_by, loads_to_free, sent_now, with_transmit_slots}
 use Rattle.driver.specs.declared.transmit.SendError.TheVariants.{RingFull}

@@ -7,13 +7,13 @@ use Rattle.std.proofs.lemmas.List.{append-nil, length-map, map-append}
 use Rattle.std.proofs.lemmas.List.Elements.{All-append, All-cons, filter-append}
 use Rattle.std.proofs.lemmas.List.Sums.{count_by-le-length, length-filter, sum_by-append}
 use Rattle.descriptors.specs.RingLaws.{place}
-use Rattle.bus.proofs.Places.{place-add}
+use Rattle.adapter.proofs.Places.{place-add}
 use Rattle.dma_memory.specs.Owners.{HasNoSecondOwner, HaveSameNumbers, copies}
 use Rattle.dma_memory.specs.OwnersLaws.{copies-append, copies-itself, known_from_no_second}
-use Rattle.bus.proofs.Lists.{all-head, all-none, all-tail}
-use Rattle.bus.proofs.Owners.{all-copies, owners-count}
-use Rattle.bus.specs.Calls.{OffersAll, missed_added}
-use Rattle.bus.specs.DriverState.{DriverState, HandedOut, holding, piece_numbers, owners, with_owners}
+use Rattle.adapter.proofs.Lists.{all-head, all-none, all-tail}
+use Rattle.adapter.proofs.Owners.{all-copies, owners-count}
+use Rattle.adapter.specs.Calls.{OffersAll, missed_added}
+use Rattle.adapter.specs.DriverState.{DriverState, HandedOut, holding, piece_numbers, owners, with_owners}
 use Rattle.driver.specs.Answers.{ReceiverAnswers}
 use Rattle.driver.specs.Growth.{GrowsBy, grows-join}
 use Rattle.driver.specs.HandlerSteps.{

@@ -1,8 +1,8 @@
 -- `SumsMisses` for two consecutive intervals together, and for an interval with the same number of missed frames.
 use Rattle.std.proofs.Common.{◌≡◌, ◌≤◌, ◌<◌, ◌^◌, ◌+◌, ⊎_elim, arith}
 use Rattle.std.proofs.lemmas.Bool.{cases_lt}
-use Rattle.bus.specs.Pasts.{Past, joined}
-use Rattle.bus.specs.Calls.{DriverInWorld, SumsMisses}
+use Rattle.adapter.specs.Pasts.{Past, joined}
+use Rattle.adapter.specs.Calls.{DriverInWorld, SumsMisses}
 
 pub sums-join : (a b c : DriverInWorld) (first later : Past) → SumsMisses a b first → SumsMisses b c later
     → SumsMisses a c (joined first later)

@@ -8,15 +8,15 @@ use Rattle.circular_buffer.specs.Buffer.{Buffer, buffer}
 use Rattle.dma_memory.specs.Owners.{HasNoSecondOwner, copies}
 use Rattle.dma_memory.specs.OwnersLaws.{copies-append}
 use Rattle.descriptors.specs.RingLaws.{place}
-use Rattle.bus.proofs.Places.{place-add, place-below}
-use Rattle.bus.specs.DriverState.{DriverState, owners}
-use Rattle.bus.specs.ReceiveSteps.{after_slots}
+use Rattle.adapter.proofs.Places.{place-add, place-below}
+use Rattle.adapter.specs.DriverState.{DriverState, owners}
+use Rattle.adapter.specs.ReceiveSteps.{after_slots}
 use Rattle.driver.specs.InsideDriver.{driver_state_of}
 use Rattle.driver.specs.Parts.{buffers_in, lengths_in}
 use Rattle.driver.specs.declared.driver.Driver.TheInside.{Inside}
 use Rattle.driver.specs.declared.parts.Part.{Part}
 use Rattle.driver.proofs.BufferQueue.{Receives, owners-inside, queue-split}
-use Rattle.bus.proofs.Places.{place-sum}
+use Rattle.adapter.proofs.Places.{place-sum}
 
 -- The first i + 1 buffers have left the queue. The parts are these buffers, with the first i + 1 lengths.
 pub record OneMore (items lengths : List ℕ) (i : ℕ) (queue : Buffer ℕ) (capacity : ℕ) (parts : List Part) : Type 0 where

@@ -7,23 +7,23 @@ use Rattle.std.proofs.lemmas.Grind.{flat_map-append}
 use Rattle.std.proofs.lemmas.List.{append-nil, length-map, map-append}
 use Rattle.std.specs.List.{All}
 use Rattle.std.proofs.lemmas.List.Elements.{All-append, All-cons}
-use Rattle.bus.proofs.Lists.{all-head, all-none}
+use Rattle.adapter.proofs.Lists.{all-head, all-none}
 use Rattle.dma_memory.specs.Layout.{Counts}
 use Rattle.dma_memory.specs.Owners.{copies}
 use Rattle.dma_memory.specs.OwnersLaws.{copies-append}
 use Rattle.descriptors.specs.RingLaws.{place}
-use Rattle.bus.specs.Keeping.{Keeps}
-use Rattle.bus.specs.Pasts.{Past, joined, nothing}
-use Rattle.bus.specs.declared.bus.Bus.{Ghosts}
-use Rattle.bus.specs.declared.event.Access.{Access}
-use Rattle.bus.proofs.DriverAccesses.{ran_by-itself, ran_by-join, ran_by-same, ran_by-stays}
-use Rattle.bus.proofs.Calls.{ready-on}
-use Rattle.bus.proofs.ReceiveAccesses.{takes-push}
-use Rattle.bus.proofs.TakenSlots.{buffers_can_come_back}
-use Rattle.bus.specs.Calls.{Ran, WhereReady, at, ether_type_load, only, receive_loads, takes_from}
-use Rattle.bus.specs.DriverState.{DriverState, HandedOut, frame_of, holding, piece_numbers}
-use Rattle.bus.specs.ReadyDrivers.{ReadyWith, Stands}
-use Rattle.bus.specs.ReceiveSteps.{after_slots}
+use Rattle.adapter.specs.Keeping.{Keeps}
+use Rattle.adapter.specs.Pasts.{Past, joined, nothing}
+use Rattle.adapter.specs.bus_types.bus.Bus.{Ghosts}
+use Rattle.adapter.specs.bus_types.event.Access.{Access}
+use Rattle.adapter.proofs.DriverAccesses.{ran_by-itself, ran_by-join, ran_by-same, ran_by-stays}
+use Rattle.adapter.proofs.Calls.{ready-on}
+use Rattle.adapter.proofs.ReceiveAccesses.{takes-push}
+use Rattle.adapter.proofs.TakenSlots.{buffers_can_come_back}
+use Rattle.adapter.specs.Calls.{Ran, WhereReady, at, ether_type_load, only, receive_loads, takes_from}
+use Rattle.adapter.specs.DriverState.{DriverState, HandedOut, frame_of, holding, piece_numbers}
+use Rattle.adapter.specs.ReadyDrivers.{ReadyWith, Stands}
+use Rattle.adapter.specs.ReceiveSteps.{after_slots}
 use Rattle.driver.specs.HandlerSteps.{AreOfOneFrame, PassesOn, HandsOver, HasEtherType, IsTaken, LeavesRing, Scene, TakesFrames, TakesSlots}
 use Rattle.driver.specs.HandlerSteps.{WhereReadyIn, WhereTaken, part_none, run_buffers, run_with, scene, whole_frames}
 use Rattle.driver.specs.Looks.{FindsFrame, IsLookedRun}

@@ -7,18 +7,18 @@ use Rattle.std.proofs.Math.Seq.{drop-append_seam, take-append_seam}
 use Rattle.std.proofs.lemmas.List.{append-nil, get_or_append_left, map-append}
 use Rattle.std.proofs.lemmas.List.Sums.{sum_by-cons}
 use Rattle.dma_memory.specs.Layout.{receive_buffer_bytes}
-use Rattle.rx_engine.specs.Addresses.{ether_type}
+use Rattle.rx_filter.specs.Addresses.{ether_type}
 use Rattle.rx_engine.specs.Pieces.{Piece, frames_from, parts}
 use Rattle.rx_engine.specs.Pieces.Piece.{Last, Part}
-use Rattle.bus.specs.Pasts.{nothing}
-use Rattle.bus.specs.declared.bus.Bus.{Ghosts}
-use Rattle.bus.proofs.Lists.{all-head, all-left}
-use Rattle.bus.proofs.DriverAccesses.{ran_by-same}
-use Rattle.bus.proofs.ReceiveAccesses.{ran_by-takes}
-use Rattle.bus.specs.Calls.{Ran, at, call_did}
-use Rattle.bus.specs.DriverState.{DriverState, HandedOut, frame_of, piece_numbers}
-use Rattle.bus.specs.ReadyDrivers.{ReadyWith}
-use Rattle.bus.specs.ReceiveSteps.{AreOfFrame, after_slots}
+use Rattle.adapter.specs.Pasts.{nothing}
+use Rattle.adapter.specs.bus_types.bus.Bus.{Ghosts}
+use Rattle.adapter.proofs.Lists.{all-head, all-left}
+use Rattle.adapter.proofs.DriverAccesses.{ran_by-same}
+use Rattle.adapter.proofs.ReceiveAccesses.{ran_by-takes}
+use Rattle.adapter.specs.Calls.{Ran, at, call_did}
+use Rattle.adapter.specs.DriverState.{DriverState, HandedOut, frame_of, piece_numbers}
+use Rattle.adapter.specs.ReadyDrivers.{ReadyWith}
+use Rattle.adapter.specs.ReceiveSteps.{AreOfFrame, after_slots}
 use Rattle.descriptors.specs.Frames.{longest_frame}
 use Rattle.driver.specs.HandlerSteps.{AreOfOneFrame, HasEtherType, IsSublist, LeavesRing, part_none, part_with, part_without}
 use Rattle.driver.specs.Looks.{FindsFrame}
@@ -75,10 +75,10 @@ type-first first rest long =
 
 pub received-same : (first : HandedOut) (later : List HandedOut) (list : List parts.Part) (size type : ℕ) → parts_of (first ∷ later) ≡ list
     → size ≡ sum (lengths_in list) → type ≡ ether_type first.bytes → 14 ≤ length first.bytes
-    → received_of (first ∷ later) ≡ record { parts = list; length = size; ether_type = type }
+    → received_of (first ∷ later) ≡ record { parts = list; len = size; ether_type = type }
 received-same first later list size type same is read long =
     let pieces = first ∷ later in
-    let shape : List parts.Part → ℕ → ℕ → Received = λ ps n t. record { parts = ps; length = n; ether_type = t } in
+    let shape : List parts.Part → ℕ → ℕ → Received = λ ps n t. record { parts = ps; len = n; ether_type = t } in
     let long_is : length (frame_of pieces) ≡ size = length-frame pieces ∙ ap (λ (ps : List parts.Part). sum (lengths_in ps)) same ∙ sym
     is in
     ap (λ (ps : List parts.Part). shape ps (length (frame_of pieces)) (ether_type (frame_of pieces))) same

@@ -7,17 +7,17 @@ use Rattle.std.specs.List.{concat}
 use Rattle.dma_memory.specs.Layout.{receive_buffer_bytes}
 use Rattle.dma_memory.specs.Owners.{HasNoSecondOwner, HaveSameNumbers}
 use Rattle.descriptors.specs.Frames.{longest_frame}
-use Rattle.rx_engine.specs.Addresses.{ether_type}
+use Rattle.rx_filter.specs.Addresses.{ether_type}
 use Rattle.descriptors.specs.RingLaws.{place}
 use Rattle.adapter.specs.HostFrames.{finished_pieces}
-use Rattle.bus.specs.declared.bus.Bus.{Ghosts}
-use Rattle.bus.specs.declared.event.Access.{Access}
-use Rattle.bus.specs.declared.event.Access.TheVariants.{Reads}
-use Rattle.bus.specs.Calls.{Did, FlowsTo, HasNoForgottenWork, IsReadyOver, IsRefilled, Moment, Ran, ReadsCauses, at, call_did}
-use Rattle.bus.specs.Calls.{driver_did, ether_type_load, frames_ended, held_at, in_world_of, missed_added, only, receive_loads}
-use Rattle.bus.specs.Calls.{stores_from, tail_write, takes_from}
-use Rattle.bus.specs.DriverState.{DriverState, HandedOut, frame_of, holding, next_receive, piece_numbers, owners}
-use Rattle.bus.specs.ReceiveSteps.{after_slots}
+use Rattle.adapter.specs.bus_types.bus.Bus.{Ghosts}
+use Rattle.adapter.specs.bus_types.event.Access.{Access}
+use Rattle.adapter.specs.bus_types.event.Access.TheVariants.{Reads}
+use Rattle.adapter.specs.Calls.{Did, FlowsTo, HasNoForgottenWork, IsReadyOver, IsRefilled, Moment, Ran, ReadsCauses, at, call_did}
+use Rattle.adapter.specs.Calls.{driver_did, ether_type_load, frames_ended, held_at, in_world_of, missed_added, only, receive_loads}
+use Rattle.adapter.specs.Calls.{stores_from, tail_write, takes_from}
+use Rattle.adapter.specs.DriverState.{DriverState, HandedOut, frame_of, holding, next_receive, piece_numbers, owners}
+use Rattle.adapter.specs.ReceiveSteps.{after_slots}
 use Rattle.driver.specs.Parts.{AreFrames, FillBuffers, FitIntoBuffers, IsFrameSize, IsWholeFrame, buffers_in, buffers_of}
 use Rattle.driver.specs.Parts.{joined_frames, lengths_in, parts_of, pieces_of, received_of}
 use Rattle.driver.specs.declared.look.Run.{Run}
@@ -25,12 +25,12 @@ use Rattle.driver.specs.declared.parts.Part.{Part}
 use Rattle.driver.specs.declared.parts.TheConstants.{MOST_PARTS}
 use Rattle.driver.specs.declared.receiver.Received.{Received}
 use Rattle.driver.specs.declared.receiver.Receiver.{Ghosts as OfReceiver}
-use Rattle.adapter.specs.declared.offsets.TheConstants.{MPC}
+use Rattle.adapter.specs.model_types.offsets.TheConstants.{MPC}
 use Rattle.registers.specs.Bits.{HasBit, Meet}
 use Rattle.registers.specs.Places.{rxt0}
 use Rattle.driver.specs.Growth.{GrowsBy}
 use Rattle.driver.specs.Looks.{IsLook}
-use Rattle.bus.specs.Pasts.{Past, joined}
+use Rattle.adapter.specs.Pasts.{Past, joined}
 use Rattle.bring_up.specs.WrittenRegisters.{handled_causes}
 use Rattle.driver.specs.declared.interrupt.Handled.{Handled}
 use Rattle.driver.specs.declared.interrupt.Handled.TheVariants.{NotMine}

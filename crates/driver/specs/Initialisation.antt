@@ -1,22 +1,22 @@
 -- How a driver initializes its adapter ("14.3 General Initialization", "14.4 Receive Initialization", "14.5 Transmit
 -- Initialization"). The order of the accesses is our choice.
 use Rattle.std.specs.Prelude.{◌≡◌, ◌≤◌, ◌<◌, ◌-◌, ◌*◌, ◌++◌, ℕ, List, [], ◌∷◌, Result, IfErr, IfOk, length}
-use Rattle.adapter.specs.declared.offsets.TheConstants.{RDBAL, RDT, TDBAL}
+use Rattle.adapter.specs.model_types.offsets.TheConstants.{RDBAL, RDT, TDBAL}
 use Rattle.registers.specs.Counting.{greatest_count}
 use Rattle.dma_memory.specs.Layout.{Counts, descriptor_bytes}
 use Rattle.dma_memory.specs.Owners.{HasOneOwner}
-use Rattle.registers.specs.Image.{HasRightSum, address_bytes}
-use Rattle.rx_engine.specs.Addresses.{IsAddress}
-use Rattle.rx_engine.specs.NumberTables.{HasNumbers, numbers_of_groups}
+use Rattle.eeprom.specs.Image.{HasRightSum, address_bytes}
+use Rattle.rx_filter.specs.Addresses.{IsAddress}
+use Rattle.rx_filter.specs.NumberTables.{HasNumbers, numbers_of_groups}
 use Rattle.adapter.specs.HostFrames.{frames_held, frames_to_send}
 use Rattle.adapter.specs.Slots.{finished}
 use Rattle.adapter.specs.World.{World}
-use Rattle.bus.specs.Link.{HasLink}
-use Rattle.bus.specs.Pasts.{Past, joined}
-use Rattle.bus.specs.Settings.{settings_after_all, settings_of}
-use Rattle.bus.specs.declared.bus.Bus.{Ghosts}
-use Rattle.bus.specs.declared.event.Access.{Access}
-use Rattle.bus.specs.declared.event.Access.TheVariants.{Writes}
+use Rattle.adapter.specs.Link.{HasLink}
+use Rattle.adapter.specs.Pasts.{Past, joined}
+use Rattle.adapter.specs.Settings.{settings_after_all, settings_of}
+use Rattle.adapter.specs.bus_types.bus.Bus.{Ghosts}
+use Rattle.adapter.specs.bus_types.event.Access.{Access}
+use Rattle.adapter.specs.bus_types.event.Access.TheVariants.{Writes}
 use Rattle.bring_up.specs.ClearedDescriptors.{clears, clears_from}
 use Rattle.bring_up.specs.Configuration.{configured_counts, vlans_of}
 use Rattle.bring_up.specs.ConfiguredAdapters.{AreWords, HasSetup, IsConfigured, names_vlans, setup_of}
@@ -31,11 +31,11 @@ use Rattle.bring_up.specs.declared.config.Config.{Config}
 use Rattle.bring_up.specs.declared.init_error.InitError.{InitError}
 use Rattle.bring_up.specs.declared.init_error.InitError.TheVariants.{Memory}
 use Rattle.bring_up.specs.declared.init_error.InitError.TheVariants as errors
-use Rattle.bus.specs.Calls.{HasNoForgottenWork, IsRefilled, stores_from}
-use Rattle.bus.specs.Beginnings.{new_driver}
+use Rattle.adapter.specs.Calls.{HasNoForgottenWork, IsRefilled, stores_from}
+use Rattle.adapter.specs.Beginnings.{new_driver}
 use Rattle.bring_up.specs.Groups.{AreNamedOnce, HasTable}
-use Rattle.bus.specs.DriverState.{DriverState, owners, receive_slot, with_owners}
-use Rattle.bus.specs.ReadyDrivers.{Ready}
+use Rattle.adapter.specs.DriverState.{DriverState, owners, receive_slot, with_owners}
+use Rattle.adapter.specs.ReadyDrivers.{Ready}
 
 -- Errors
 

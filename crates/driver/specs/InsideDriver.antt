@@ -7,7 +7,7 @@ use Rattle.dma_memory.specs.Numbers.{Numbers}
 use Rattle.dma_memory.specs.Owners.{HasNoSecondOwner}
 use Rattle.circular_buffer.specs.Buffer.{Buffer}
 use Rattle.descriptors.specs.RingLaws.{place}
-use Rattle.bus.specs.DriverState.{DriverState}
+use Rattle.adapter.specs.DriverState.{DriverState}
 use Rattle.driver.specs.InsideSetup.{IsRightSetup, setup_in}
 use Rattle.driver.specs.declared.driver.Driver.TheInside.{Inside}
 use Rattle.driver.specs.declared.setup.Setup.{Setup}

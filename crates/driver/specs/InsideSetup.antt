@@ -1,10 +1,10 @@
 -- How `Setup` stores the setup of a driver (our choice).
 use Rattle.std.specs.Prelude.{◌<◌, All}
-use Rattle.rx_engine.specs.NumberTables.{table_numbers}
+use Rattle.rx_filter.specs.NumberTables.{table_numbers}
 use Rattle.adapter.specs.PacketBuffer.{IsAllocation}
 use Rattle.bring_up.specs.Configuration.{vlans_of}
 use Rattle.bring_up.specs.ConfiguredAdapters.{names_vlans}
-use Rattle.bus.specs.DriverState.{DriverSetup}
+use Rattle.adapter.specs.DriverState.{DriverSetup}
 use Rattle.driver.specs.declared.setup.Setup.{Setup}
 
 -- The driver's setup in contracts, from a stored `Setup`. If `Setup.vlans` is `None`, `by_vlan` is false, and `vlans` is empty.

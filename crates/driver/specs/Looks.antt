@@ -12,9 +12,9 @@ use Rattle.rx_engine.specs.Pieces.{IsLastSize, Piece, frames_of, parts}
 use Rattle.rx_engine.specs.Pieces.Piece.{Last}
 use Rattle.adapter.specs.HostFrames.{finished_pieces}
 use Rattle.adapter.specs.World.{World}
-use Rattle.bus.specs.declared.bus.Bus.{Ghosts}
-use Rattle.bus.specs.Calls.{Moment, Ran, frames_ended, in_world_of, only, receive_loads}
-use Rattle.bus.specs.OldestSlot.{LooksAtSlot}
+use Rattle.adapter.specs.bus_types.bus.Bus.{Ghosts}
+use Rattle.adapter.specs.Calls.{Moment, Ran, frames_ended, in_world_of, only, receive_loads}
+use Rattle.adapter.specs.OldestSlot.{LooksAtSlot}
 use Rattle.driver.specs.Parts.{FillBuffers, IsFrameSize}
 use Rattle.driver.specs.declared.look.Run.{Run}
 use Rattle.driver.specs.declared.parts.TheConstants.{MOST_PARTS}

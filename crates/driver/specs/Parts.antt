@@ -1,12 +1,12 @@
 -- The pieces of received frames in their buffers, and how `Parts` stores pieces (our choice).
 use Rattle.std.specs.Prelude.{◌≡◌, ◌-◌, ◌≤◌, ◌++◌, ◌∷◌, [], ℕ, All, List, Option, Some, None, flat_map, length, map, replicate, sum}
 use Rattle.descriptors.specs.Frames.{longest_frame, shortest_frame}
-use Rattle.rx_engine.specs.Addresses.{ether_type}
+use Rattle.rx_filter.specs.Addresses.{ether_type}
 use Rattle.rx_engine.specs.Pieces.{IsLastSize}
 use Rattle.dma_memory.specs.Layout.{Counts, receive_buffer_bytes}
-use Rattle.bus.specs.declared.event.Access.{Access}
-use Rattle.bus.specs.declared.event.Access.TheVariants.{Loads}
-use Rattle.bus.specs.DriverState.{HandedOut, buffer_at, frame_of}
+use Rattle.adapter.specs.bus_types.event.Access.{Access}
+use Rattle.adapter.specs.bus_types.event.Access.TheVariants.{Loads}
+use Rattle.adapter.specs.DriverState.{HandedOut, buffer_at, frame_of}
 use Rattle.driver.specs.declared.parts.Part.{Part}
 use Rattle.driver.specs.declared.parts.Parts.TheInside.{Inside}
 use Rattle.driver.specs.declared.parts.TheConstants.{MOST_PARTS}
@@ -79,9 +79,9 @@ pub record FillBuffers (sizes : List ℕ) : Type 0 where
 -- The length of a received frame is the sum of the sizes of its pieces, and is legal. Each piece fits into a buffer.
 pub record IsWholeFrame (received : Received) : Type 0 where
   -- the length is legal
-  pub size : IsFrameSize received.length
+  pub size : IsFrameSize received.len
   -- the length is the sum of the sizes of the pieces
-  pub sum : received.length ≡ sum (lengths_in received.parts)
+  pub sum : received.len ≡ sum (lengths_in received.parts)
   -- each piece fits into a buffer
   pub fits : FitIntoBuffers (lengths_in received.parts)
 
@@ -102,7 +102,7 @@ parts_of pieces = map part_of pieces
 
 -- the frame that these pieces make up, in the form in which a receiver is shown a frame
 abbrev pub received_of : List HandedOut → Received
-received_of pieces = record { parts = parts_of pieces; length = length (frame_of pieces); ether_type = ether_type (frame_of pieces) }
+received_of pieces = record { parts = parts_of pieces; len = length (frame_of pieces); ether_type = ether_type (frame_of pieces) }
 
 -- the frames that these lists of pieces make up
 abbrev pub joined_frames : List (List HandedOut) → List (List ℕ)

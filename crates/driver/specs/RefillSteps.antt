@@ -1,9 +1,9 @@
 -- How a driver stages and offers receive slots, and takes back the buffers of frames.
 use Rattle.std.specs.Prelude.{◌≡◌, ◌++◌, ℕ, Bool, List}
 use Rattle.dma_memory.specs.Owners.{HaveSameNumbers}
-use Rattle.bus.specs.Calls.{IsReadyOver, Moment, Ran, Runs, held_at, only, stores_from, tail_write}
-use Rattle.bus.specs.declared.bus.Bus.{Ghosts}
-use Rattle.bus.specs.DriverState.{DriverState, HandedOut, next_receive, piece_numbers, with_owners}
+use Rattle.adapter.specs.Calls.{IsReadyOver, Moment, Ran, Runs, held_at, only, stores_from, tail_write}
+use Rattle.adapter.specs.bus_types.bus.Bus.{Ghosts}
+use Rattle.adapter.specs.DriverState.{DriverState, HandedOut, next_receive, piece_numbers, with_owners}
 use Rattle.driver.specs.Parts.{buffers_in}
 use Rattle.driver.specs.declared.parts.Part.{Part}
 

@@ -1,17 +1,17 @@
 -- How a driver resets its adapter and initializes it again ("14.3 General Initialization"). The order of the accesses
 -- is our choice.
 use Rattle.std.specs.Prelude.{◌≡◌, ◌≤◌, ◌+◌, ◌-◌, ◌*◌, ◌++◌, ℕ, Bool, false, List, [], ◌∷◌, length}
-use Rattle.adapter.specs.declared.offsets.TheConstants.{MPC, MTA, RDBAL, RDT, VFTA}
+use Rattle.adapter.specs.model_types.offsets.TheConstants.{MPC, MTA, RDBAL, RDT, VFTA}
 use Rattle.dma_memory.specs.Layout.{Counts, descriptor_bytes}
 use Rattle.dma_memory.specs.Owners.{HaveSameNumbers}
 use Rattle.adapter.specs.HostFrames.{frames_held, frames_to_send}
 use Rattle.adapter.specs.World.{World}
-use Rattle.bus.specs.AdaptersAtRest.{NoFrame}
-use Rattle.bus.specs.Link.{HasLink}
-use Rattle.bus.specs.Pasts.{Past, joined}
-use Rattle.bus.specs.declared.bus.Bus.{Ghosts}
-use Rattle.bus.specs.declared.event.Access.{Access}
-use Rattle.bus.specs.declared.event.Access.TheVariants.{Reads, Writes}
+use Rattle.adapter.specs.AdaptersAtRest.{NoFrame}
+use Rattle.adapter.specs.Link.{HasLink}
+use Rattle.adapter.specs.Pasts.{Past, joined}
+use Rattle.adapter.specs.bus_types.bus.Bus.{Ghosts}
+use Rattle.adapter.specs.bus_types.event.Access.{Access}
+use Rattle.adapter.specs.bus_types.event.Access.TheVariants.{Reads, Writes}
 use Rattle.bring_up.specs.ClearedDescriptors.{clears_from}
 use Rattle.bring_up.specs.ConfiguredAdapters.{HasSetup}
 use Rattle.bring_up.specs.DriverSteps.{ResetsDriver}
@@ -19,7 +19,7 @@ use Rattle.bring_up.specs.DriverSteps.{MakesAccesses, accesses_of}
 use Rattle.bring_up.specs.FilterTables.{address_writes, table_writes}
 use Rattle.bring_up.specs.RingRegisters.{disable_writes, receive_writes, ring_setup_writes}
 use Rattle.bring_up.specs.WrittenRegisters.{allocation_writes, enable_link_writes, mask_writes}
-use Rattle.bus.specs.Calls.{
+use Rattle.adapter.specs.Calls.{
   HasNoForgottenWork,
   IsReadyOver,
   IsRefilled,
@@ -31,10 +31,10 @@ use Rattle.bus.specs.Calls.{
   only,
   stores_from,
 }
-use Rattle.bus.specs.Calls.{missed_added}
-use Rattle.bus.specs.DriverState.{DriverSetup, DriverState, HandedOut, receive_slot, with_owners}
-use Rattle.bus.specs.ReadyDrivers.{Ready}
-use Rattle.bus.specs.Resets.{reset_driver}
+use Rattle.adapter.specs.Calls.{missed_added}
+use Rattle.adapter.specs.DriverState.{DriverSetup, DriverState, HandedOut, receive_slot, with_owners}
+use Rattle.adapter.specs.ReadyDrivers.{Ready}
+use Rattle.adapter.specs.Resets.{reset_driver}
 use Rattle.bring_up.specs.Groups.{HasTable}
 use Rattle.driver.specs.Initialisation.{AreFilterTables, transmit_accesses}
 

@@ -3,11 +3,11 @@ use Rattle.std.specs.Prelude.{⊤, Bool, ◌≡◌, ◌≤◌, ◌<◌, ◌+◌,
 use Rattle.std.specs.Bool.{OnFalse}
 use Rattle.descriptors.specs.Frames.{padded}
 use Rattle.adapter.specs.Slots.{written_back_slots}
-use Rattle.bus.specs.declared.bus.Bus.{Ghosts}
-use Rattle.bus.specs.declared.event.Access.{Access}
-use Rattle.bus.specs.DriverState.{DriverState, transmit_tail}
-use Rattle.bus.specs.Calls.{Did, Moment, Ran, WhereUp, call_did, only, send_accesses, transmit_loads}
-use Rattle.bus.specs.TransmitSteps.{with_freed}
+use Rattle.adapter.specs.bus_types.bus.Bus.{Ghosts}
+use Rattle.adapter.specs.bus_types.event.Access.{Access}
+use Rattle.adapter.specs.DriverState.{DriverState, transmit_tail}
+use Rattle.adapter.specs.Calls.{Did, Moment, Ran, WhereUp, call_did, only, send_accesses, transmit_loads}
+use Rattle.adapter.specs.TransmitSteps.{with_freed}
 use Rattle.driver.specs.declared.transmit.SendError.{SendError}
 use Rattle.driver.specs.declared.transmit.SendError.TheVariants.{TooShort, TooLong, RingFull}
 

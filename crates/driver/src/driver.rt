@@ -3,7 +3,7 @@
 ghost use Rattle.std.specs.Prelude.{◌≡◌, ◌+◌, ◌<◌, IsTrue, length};
 ghost use Rattle.registers.specs.Counting.{greatest_count};
 ghost use Rattle.dma_memory.specs.Owners.{HasNoSecondOwner};
-ghost use Rattle.bus.specs.DriverState.{owners, DriverState};
+ghost use Rattle.adapter.specs.DriverState.{owners, DriverState};
 ghost use Rattle.driver.specs.InsideDriver.{IsConsistentDriver, driver_state_of};
 
 use crate::setup::Setup;

@@ -3,17 +3,17 @@
 ghost use Rattle.std.specs.Prelude.{◌≡◌, ◌≢◌, ◌<◌, ◌↔◌, ◌++◌, ◌∷◌, [], Err, length};
 ghost use Rattle.std.specs.Result.{OnErr, OnOk};
 ghost use Rattle.std.specs.List.{Contains};
-ghost use Rattle.rx_engine.specs.Addresses.{IsGroup};
-ghost use Rattle.rx_engine.specs.GroupLists.{Removes};
+ghost use Rattle.rx_filter.specs.Addresses.{IsGroup};
+ghost use Rattle.rx_filter.specs.GroupLists.{Removes};
 ghost use Rattle.bring_up.specs.declared.config.TheConstants.{MOST_GROUPS};
-ghost use Rattle.bus.specs.Keeping.{Keeps};
-ghost use Rattle.bus.specs.Calls.{WhereReady, at};
+ghost use Rattle.adapter.specs.Keeping.{Keeps};
+ghost use Rattle.adapter.specs.Calls.{WhereReady, at};
 ghost use Rattle.bring_up.specs.Groups.{ChangesJoined, HasNumber, with_groups};
 ghost use Rattle.bring_up.specs.declared.groups.GroupError.TheVariants.{GroupsFull, Joined, NotGroup, NotJoined};
 
 use crate::Driver;
+use adapter::Bus;
 use bring_up::GroupError;
-use bus::Bus;
 
 impl Driver {
     /// Joins a group, so that frames to the group pass the receive filter. If no joined group has the same group

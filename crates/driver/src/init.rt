@@ -9,21 +9,21 @@ ghost use Rattle.bring_up.specs.ConfiguredAdapters.{setup_of};
 ghost use Rattle.bring_up.specs.Device.{IsBeforeAccess};
 ghost use Rattle.bring_up.specs.Groups.{AreNamedOnce};
 ghost use Rattle.bring_up.specs.declared.init_error.InitError.TheVariants as InitError;
-ghost use Rattle.bus.specs.Keeping.{Keeps};
-ghost use Rattle.bus.specs.Beginnings.{new_driver};
-ghost use Rattle.bus.specs.Calls.{IsReadyOver, Ran, at, only};
-ghost use Rattle.bus.specs.DriverState.{DriverState};
+ghost use Rattle.adapter.specs.Keeping.{Keeps};
+ghost use Rattle.adapter.specs.Beginnings.{new_driver};
+ghost use Rattle.adapter.specs.Calls.{IsReadyOver, Ran, at, only};
+ghost use Rattle.adapter.specs.DriverState.{DriverState};
 ghost use Rattle.driver.specs.Initialisation.{FindsRing, Initialises, IsFresh, RefusesInit};
 ghost use Rattle.driver.specs.Initialisation.{transmit_accesses};
 
 use crate::Driver;
 use crate::setup::Setup;
+use adapter::Bus;
 use bring_up::{
     Config, FilterModes, Groups, InitError, RingPlace, clear_descriptors, enable_interrupts,
     enable_receiver, enable_transmitter, find_device, named_vlans, set_filter, set_receive_ring,
     set_transmit_ring,
 };
-use bus::Bus;
 use circular_buffer::HeapCircularBuffer;
 use dma_memory::{DESCRIPTOR_BYTES, Layout, Pool};
 use std::alloc::Global;

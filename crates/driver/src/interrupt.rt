@@ -3,19 +3,19 @@
 ghost use Rattle.std.specs.Prelude.{◌≡◌, ◌↔◌, ◌<◌, ◌≤◌, ◌∷◌, [], IsTrue};
 ghost use Rattle.registers.specs.Bits.{Meet};
 ghost use Rattle.dma_memory.specs.Layout.{size_of};
-ghost use Rattle.bus.specs.declared.event.Access.TheVariants.{Reads};
-ghost use Rattle.bus.specs.Keeping.{Keeps};
-ghost use Rattle.bus.specs.Calls.{Runs, at, only, missed_added};
-ghost use Rattle.bus.specs.Calls as calls;
+ghost use Rattle.adapter.specs.bus_types.event.Access.TheVariants.{Reads};
+ghost use Rattle.adapter.specs.Keeping.{Keeps};
+ghost use Rattle.adapter.specs.Calls.{Runs, at, only, missed_added};
+ghost use Rattle.adapter.specs.Calls as calls;
 ghost use Rattle.driver.specs.HandlerSteps.{Handles, IfHandled, IfNotMine, OnlyReceives};
 ghost use Rattle.driver.specs.HandlerSteps.{ServesReceiver, WhereReadyIn, scene};
 ghost use Rattle.bring_up.specs.WrittenRegisters.{handled_causes};
 
 use crate::{Driver, Receiver};
+use adapter::Bus;
 use adapter::offsets::{ICR, MPC};
 use bitflags::Flags;
 use bring_up::interrupt_causes;
-use bus::Bus;
 use registers::Cause;
 
 /// The result of handling an interrupt.

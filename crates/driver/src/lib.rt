@@ -18,6 +18,7 @@ mod reset;
 mod setup;
 mod transmit;
 
+pub use bring_up::{Config, GroupError, InitError, MOST_GROUPS, MOST_VLANS};
 pub use driver::Driver;
 pub use interrupt::Handled;
 pub use parts::{MOST_PARTS, Part, Parts};

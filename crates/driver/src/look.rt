@@ -6,17 +6,17 @@ ghost use Rattle.dma_memory.specs.Layout.{size_of};
 ghost use Rattle.dma_memory.specs.Owners.{HasNoSecondOwner};
 ghost use Rattle.registers.specs.Bits.{is_set};
 ghost use Rattle.descriptors.specs.RxStatus.{dd, eop, status_bits};
-ghost use Rattle.bus.specs.Keeping.{Keeps};
-ghost use Rattle.bus.specs.Calls.{WhereReady, at};
-ghost use Rattle.bus.specs.DriverState.{owners};
+ghost use Rattle.adapter.specs.Keeping.{Keeps};
+ghost use Rattle.adapter.specs.Calls.{WhereReady, at};
+ghost use Rattle.adapter.specs.DriverState.{owners};
 ghost use Rattle.driver.specs.Looks.{IsLookedRun, IsSoundPart, LooksAt, LooksAtPlace, greatest_length};
 ghost use Rattle.driver.specs.Parts.{IsFrameSize};
 
 use crate::Driver;
 use crate::parts::MOST_PARTS;
 use crate::refill::receive_slot;
+use adapter::Bus;
 use bitflags::Flags;
-use bus::Bus;
 use descriptors::{LONGEST_LEGAL, RX_DESC_BYTES, RxDesc, RxStatus, SHORTEST_LEGAL};
 use dma_memory::RECEIVE_BUFFER_BYTES;
 

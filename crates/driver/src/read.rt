@@ -2,13 +2,13 @@
 
 ghost use Rattle.std.specs.Prelude.{◌≡◌, ◌≤◌, ◌<◌, All, take, drop};
 ghost use Rattle.dma_memory.specs.Layout.{size_of};
-ghost use Rattle.bus.specs.Keeping.{Keeps};
-ghost use Rattle.bus.specs.Calls.{Runs, at, only};
+ghost use Rattle.adapter.specs.Keeping.{Keeps};
+ghost use Rattle.adapter.specs.Calls.{Runs, at, only};
 ghost use Rattle.driver.specs.HandlerSteps.{ReadsHeld};
 ghost use Rattle.driver.specs.Parts.{IsWholeFrame, buffers_in, part_loads};
 
 use crate::{Driver, Received};
-use bus::Bus;
+use adapter::Bus;
 
 impl Driver {
     /// Copies a received frame to the front of `into`, by one load from each of its buffers, and returns its size in
@@ -22,7 +22,7 @@ impl Driver {
         requires known { All (λ number. number < self.now.layout.buffers) (buffers_in received.now.parts) }
         requires whole { IsWholeFrame received.now }
         ensures keeps { Keeps B.Bus bus.old bus.new }
-        ensures length { result ≡ received.now.length }
+        ensures length { result ≡ received.now.len }
         ensures rest { drop result into.new ≡ drop result into.old }
 
         // Over a bus that obeys the law, with a ready driver. `frame`: if others hold this frame, its bytes are copied.

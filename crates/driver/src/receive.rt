@@ -4,16 +4,16 @@ ghost use Rattle.std.specs.Prelude.{◌≡◌, ◌+◌, ◌<◌, ◌≤◌, ◌+
 ghost use Rattle.circular_buffer.specs.Buffer.{buffer};
 ghost use Rattle.dma_memory.specs.Layout.{size_of};
 ghost use Rattle.dma_memory.specs.Owners.{HasNoSecondOwner};
-ghost use Rattle.bus.specs.Keeping.{Keeps};
-ghost use Rattle.bus.specs.Calls.{Runs, at, ether_type_load, only};
-ghost use Rattle.bus.specs.DriverState.{owners};
+ghost use Rattle.adapter.specs.Keeping.{Keeps};
+ghost use Rattle.adapter.specs.Calls.{Runs, at, ether_type_load, only};
+ghost use Rattle.adapter.specs.DriverState.{owners};
 ghost use Rattle.driver.specs.HandlerSteps.{PassesOn, HandsOver, HasParts, LeavesRing, ReadsEtherType, Shows, TakesAll};
 ghost use Rattle.driver.specs.HandlerSteps.{TakesSlots, WhereReadyIn, WhereTaken, run_with, scene};
 ghost use Rattle.driver.specs.Parts.{buffers_in, lengths_in};
 
 use crate::look::Run;
 use crate::{Driver, MOST_PARTS, Part, Parts, Received, Receiver};
-use bus::Bus;
+use adapter::Bus;
 use circular_buffer::HeapCircularBuffer;
 use dma_memory::BufId;
 
@@ -124,7 +124,7 @@ impl Driver {
         // A whole frame has at most 1,518 bytes, so its length fits into `u16`.
         let received = Received {
             parts,
-            length: run.length as u16,
+            len: run.length as u16,
             ether_type,
         };
         self.show(received, receiver);

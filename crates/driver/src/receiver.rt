@@ -12,7 +12,7 @@ pub struct Received {
     /// The pieces of the frame, in order. The owner of this value owns the buffers of the pieces.
     pub parts: Parts,
     /// The size of the frame in bytes, from 60 to 1,518: the sum of the sizes of its pieces.
-    pub length: u16,
+    pub len: u16,
     /// Bytes 12 and 13 of the frame, the more significant one first.
     pub ether_type: u16,
 }

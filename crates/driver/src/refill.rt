@@ -5,18 +5,18 @@ ghost use Rattle.std.specs.Bool.{OnFalse, OnTrue};
 ghost use Rattle.dma_memory.specs.Layout.{descriptor_bytes, size_of};
 ghost use Rattle.dma_memory.specs.Owners.{HasNoSecondOwner, HaveSameNumbers};
 ghost use Rattle.descriptors.specs.RxDesc.{rx_desc_bytes};
-ghost use Rattle.bus.specs.Keeping.{Keeps};
-ghost use Rattle.bus.specs.declared.event.Access.TheVariants.{Writes};
-ghost use Rattle.bus.specs.Calls.{OffersAll, Runs, WhereReady, at, only, tail_write};
-ghost use Rattle.bus.specs.DriverState.{next_receive, owners, with_owners};
-ghost use Rattle.bus.specs.ReadyDrivers.{empty_descriptor};
+ghost use Rattle.adapter.specs.Keeping.{Keeps};
+ghost use Rattle.adapter.specs.bus_types.event.Access.TheVariants.{Writes};
+ghost use Rattle.adapter.specs.Calls.{OffersAll, Runs, WhereReady, at, only, tail_write};
+ghost use Rattle.adapter.specs.DriverState.{next_receive, owners, with_owners};
+ghost use Rattle.adapter.specs.ReadyDrivers.{empty_descriptor};
 ghost use Rattle.driver.specs.Parts.{buffers_in};
 ghost use Rattle.driver.specs.RefillSteps.{OffersAfter, Refills, Stages, StagesSome, WhereHeld};
 
 use crate::{Driver, Parts};
+use adapter::Bus;
 use adapter::offsets::RDT;
 use bitflags::Flags;
-use bus::Bus;
 use descriptors::{RxDesc, RxStatus};
 use dma_memory::{DESCRIPTOR_BYTES, Pool};
 

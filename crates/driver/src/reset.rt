@@ -3,20 +3,20 @@
 ghost use Rattle.std.specs.Prelude.{◌≡◌, ◌≤◌, ◌<◌, ◌+◌, ◌++◌, [], length};
 ghost use Rattle.dma_memory.specs.Layout.{size_of};
 ghost use Rattle.dma_memory.specs.Owners.{HasNoSecondOwner, HaveSameNumbers};
-ghost use Rattle.bus.specs.Keeping.{Keeps};
-ghost use Rattle.bus.specs.Calls.{WhereReady, at};
-ghost use Rattle.bus.specs.DriverState.{owners};
-ghost use Rattle.bus.specs.Resets.{reset_driver};
+ghost use Rattle.adapter.specs.Keeping.{Keeps};
+ghost use Rattle.adapter.specs.Calls.{WhereReady, at};
+ghost use Rattle.adapter.specs.DriverState.{owners};
+ghost use Rattle.adapter.specs.Resets.{reset_driver};
 ghost use Rattle.driver.specs.Resetting.{OffersFree, Resets};
 
 use crate::Driver;
 use crate::init::{place_of, set_up_transmitter};
 use crate::refill::receive_slot;
+use adapter::Bus;
 use bring_up::{
     FilterModes, allocate_packet_buffer, clear_descriptors, disable_receiver, enable_interrupts,
     enable_receiver, named_vlans, reset_device, set_filter, set_link_up, set_receive_ring,
 };
-use bus::Bus;
 use circular_buffer::HeapCircularBuffer;
 use dma_memory::{BufId, Pool};
 
@@ -37,7 +37,7 @@ fn give_buffers(pool: &mut Pool, buffers: &mut HeapCircularBuffer<BufId>)
 impl Driver {
     /// Returns the place of the oldest outstanding receive slot, or of the next receive slot to be offered if no slot
     /// is outstanding. A reset drops the received frames in the slots from this place on.
-    pub fn oldest_receive(&self) -> u16
+    pub fn oldest(&self) -> u16
         ensures { result ≡ self.now.oldest_receive }
     {
         self.oldest_receive

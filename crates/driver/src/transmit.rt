@@ -6,16 +6,16 @@ ghost use Rattle.registers.specs.Bits.{is_set};
 ghost use Rattle.dma_memory.specs.Layout.{descriptor_bytes, size_of};
 ghost use Rattle.descriptors.specs.Frames.{longest_frame, shortest_sent};
 ghost use Rattle.descriptors.specs.TxFields.{tx_dd};
-ghost use Rattle.bus.specs.Keeping.{Keeps};
-ghost use Rattle.bus.specs.Calls.{Ran, WhereUp, at, whole_descriptor};
-ghost use Rattle.bus.specs.DriverState.{transmit_slot, transmit_tail};
+ghost use Rattle.adapter.specs.Keeping.{Keeps};
+ghost use Rattle.adapter.specs.Calls.{Ran, WhereUp, at, whole_descriptor};
+ghost use Rattle.adapter.specs.DriverState.{transmit_slot, transmit_tail};
 ghost use Rattle.driver.specs.SendSteps.{FreesOldest, HasWrongLength, LooksBack, Transmits};
 ghost use Rattle.driver.specs.SendSteps.{sent_now, sent_status_offset, with_transmit_slots};
 
 use crate::Driver;
+use adapter::Bus;
 use adapter::offsets::TDT;
 use bitflags::Flags;
-use bus::Bus;
 use descriptors::{
     LONGEST_SENDABLE, SHORTEST_SENDABLE, TX_DESC_BYTES, TxCommand, TxDesc, TxStatus,
 };

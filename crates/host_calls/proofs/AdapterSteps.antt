@@ -20,15 +20,15 @@ use Rattle.adapter.specs.State.{AdapterState, IsAdapter}
 use Rattle.adapter.specs.Steps.{Answers}
 use Rattle.adapter.specs.Outcomes.{FrameOutcome, framed}
 use Rattle.adapter.specs.World.{World}
-use Rattle.adapter.specs.declared.step.StepKind.{StepKind}
-use Rattle.adapter.specs.declared.step.StepKind.TheVariants.{RxData, RxDone, TxPut}
-use Rattle.adapter.specs.declared.outcome.Outcome.{Outcome}
-use Rattle.adapter.specs.declared.outcome.Outcome.TheVariants as outcome
-use Rattle.bus.proofs.Lists.{all-none}
-use Rattle.bus.specs.StepsAndArrivals.{world_after_step}
-use Rattle.bus.specs.Trails.{Occurs}
-use Rattle.bus.specs.declared.event.Event.{Event}
-use Rattle.bus.specs.declared.event.Event.TheVariants.{Steps}
+use Rattle.adapter.specs.model_types.step.StepKind.{StepKind}
+use Rattle.adapter.specs.model_types.step.StepKind.TheVariants.{RxData, RxDone, TxPut}
+use Rattle.adapter.specs.model_types.outcome.Outcome.{Outcome}
+use Rattle.adapter.specs.model_types.outcome.Outcome.TheVariants as outcome
+use Rattle.adapter.proofs.Lists.{all-none}
+use Rattle.adapter.specs.StepsAndArrivals.{world_after_step}
+use Rattle.adapter.specs.Trails.{Occurs}
+use Rattle.adapter.specs.bus_types.event.Event.{Event}
+use Rattle.adapter.specs.bus_types.event.Event.TheVariants.{Steps}
 use Rattle.stations.specs.AtomicSteps.{At, AtomicStep, OccursAt}
 use Rattle.stations.specs.Stations.{StationState, stations_after, wire_of, world_at}
 use Rattle.stations.proofs.HostTrails.{world-here}

@@ -9,9 +9,9 @@ use Rattle.std.proofs.lemmas.Bool.{leb-false}
 use Rattle.std.proofs.lemmas.Nat.{mod_below}
 use Rattle.std.proofs.lemmas.List.Elements.{All-append, All-cons, All-drop}
 use Rattle.std.proofs.lemmas.List.Sums.{sum_by-take-drop}
-use Rattle.bus.proofs.Lists.{all-head, all-none}
-use Rattle.registers.specs.declared.mdic.Ticked.{Ticked}
-use Rattle.registers.specs.Mdic.{told}
+use Rattle.adapter.proofs.Lists.{all-head, all-none}
+use Rattle.mdic_phy.specs.declared.mdic.Ticked.{Ticked}
+use Rattle.mdic_phy.specs.Mdic.{told}
 use Rattle.registers.specs.Bits.{field}
 use Rattle.registers.specs.ReceiveControl.{buffer_size_of}
 use Rattle.descriptors.specs.Frames.{IsLegal, longest_frame}
@@ -33,16 +33,16 @@ use Rattle.adapter.specs.Steps.{Answers, after_phy_told, after_step}
 use Rattle.adapter.specs.Table.{register_at, row_of}
 use Rattle.adapter.specs.Transmitting.{after_put, after_take}
 use Rattle.adapter.specs.World.{World}
-use Rattle.adapter.specs.declared.outcome.Outcome.TheVariants.{Done, Fault, Moved, Part, Put, Took}
-use Rattle.adapter.specs.declared.register.Register.{Register}
-use Rattle.adapter.specs.declared.register.Register.TheVariants.{Ctrl, Eerd, Icr}
-use Rattle.adapter.specs.declared.step.StepKind.{StepKind}
-use Rattle.adapter.specs.declared.step.StepKind.TheVariants.{EepromTick, PhyTick, RxData, RxDone, TxPut, TxTake}
-use Rattle.bus.specs.Trails.{Occurs, Trail, past_of, world_after}
-use Rattle.bus.specs.declared.event.Access.{Access}
-use Rattle.bus.specs.declared.event.Access.TheVariants.{Loads, Reads, Stores, Writes}
-use Rattle.bus.specs.declared.event.Event.{Event}
-use Rattle.bus.specs.declared.event.Event.TheVariants.{Accesses, Arrives, Steps}
+use Rattle.adapter.specs.model_types.outcome.Outcome.TheVariants.{Done, Fault, Moved, Part, Put, Took}
+use Rattle.adapter.specs.model_types.register.Register.{Register}
+use Rattle.adapter.specs.model_types.register.Register.TheVariants.{Ctrl, Eerd, Icr}
+use Rattle.adapter.specs.model_types.step.StepKind.{StepKind}
+use Rattle.adapter.specs.model_types.step.StepKind.TheVariants.{EepromTick, PhyTick, RxData, RxDone, TxPut, TxTake}
+use Rattle.adapter.specs.Trails.{Occurs, Trail, past_of, world_after}
+use Rattle.adapter.specs.bus_types.event.Access.{Access}
+use Rattle.adapter.specs.bus_types.event.Access.TheVariants.{Loads, Reads, Stores, Writes}
+use Rattle.adapter.specs.bus_types.event.Event.{Event}
+use Rattle.adapter.specs.bus_types.event.Event.TheVariants.{Accesses, Arrives, Steps}
 
 -- The receive engine after accesses
 

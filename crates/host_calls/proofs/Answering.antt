@@ -7,16 +7,16 @@ use Rattle.adapter.specs.Conditions.{Sound}
 use Rattle.adapter.specs.Registers.{answer_at, answer_of}
 use Rattle.adapter.specs.State.{AdapterState}
 use Rattle.adapter.specs.TableLaws.{register_at-there}
-use Rattle.adapter.specs.declared.register.Register.{Register}
-use Rattle.adapter.specs.declared.register.Register.TheVariants.{Icr}
-use Rattle.adapter.specs.declared.offsets.TheConstants.{ICR}
+use Rattle.adapter.specs.model_types.register.Register.{Register}
+use Rattle.adapter.specs.model_types.register.Register.TheVariants.{Icr}
+use Rattle.adapter.specs.model_types.offsets.TheConstants.{ICR}
 use Rattle.bring_up.specs.WrittenRegisters.{handled_causes}
-use Rattle.bus.proofs.TrailCauses.{causes_are_those_of_steps}
-use Rattle.bus.specs.Pasts.{Past}
-use Rattle.bus.specs.TrailCauses.{causes_in}
-use Rattle.bus.specs.declared.event.Access.{Access}
-use Rattle.bus.specs.declared.event.Access.TheVariants.{Reads}
-use Rattle.bus.specs.declared.event.Event.TheVariants.{Accesses}
+use Rattle.adapter.proofs.TrailCauses.{causes_are_those_of_steps}
+use Rattle.adapter.specs.Pasts.{Past}
+use Rattle.adapter.specs.TrailCauses.{causes_in}
+use Rattle.adapter.specs.bus_types.event.Access.{Access}
+use Rattle.adapter.specs.bus_types.event.Access.TheVariants.{Reads}
+use Rattle.adapter.specs.bus_types.event.Event.TheVariants.{Accesses}
 use Rattle.stations.specs.AtomicSteps.{At, AtomicStep}
 use Rattle.stations.specs.Stations.{StationState, world_at}
 use Rattle.stations.proofs.HostTrails.{steps-alone, trail-of}

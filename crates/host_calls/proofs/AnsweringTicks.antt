@@ -7,12 +7,12 @@ use Rattle.std.proofs.Common.{sym, ap, ◌∙◌, arith}
 use Rattle.std.specs.Prelude.{is_some, nat_le}
 use Rattle.std.proofs.lemmas.List.{length-map}
 use Rattle.std.proofs.lemmas.Bool.Decides.{eqb_tells}
-use Rattle.registers.specs.Eerd.{is_pending}
-use Rattle.registers.specs.declared.mdic.Operation.{Operation}
-use Rattle.registers.specs.declared.phy.Negotiation.{Negotiation}
-use Rattle.registers.specs.declared.phy.Negotiation.TheVariants.{NotStarted, Running, Complete}
-use Rattle.registers.specs.Mdic.{has_work}
-use Rattle.registers.specs.Phy.{PhyState, is_running}
+use Rattle.eeprom.specs.Eerd.{is_pending}
+use Rattle.mdic_phy.specs.declared.mdic.Operation.{Operation}
+use Rattle.mdic_phy.specs.declared.phy.Negotiation.{Negotiation}
+use Rattle.mdic_phy.specs.declared.phy.Negotiation.TheVariants.{NotStarted, Running, Complete}
+use Rattle.mdic_phy.specs.Mdic.{has_work}
+use Rattle.mdic_phy.specs.Phy.{PhyState, is_running}
 use Rattle.registers.specs.Bits.{HasBit, is_set}
 use Rattle.registers.specs.Places.{rctl_en, tctl_en}
 use Rattle.rx_engine.specs.Receiver.{oldest}
@@ -21,7 +21,7 @@ use Rattle.adapter.specs.State.{AdapterState}
 use Rattle.adapter.specs.Steps.{ticked}
 use Rattle.adapter.specs.Transmitting.{HasNothingToTake, TakeAnswers}
 use Rattle.adapter.specs.Outcomes.{FrameOutcome}
-use Rattle.adapter.specs.declared.outcome.Outcome.TheVariants.{Done, Fault, Moved, Nothing, Part, Ticked, Took}
+use Rattle.adapter.specs.model_types.outcome.Outcome.TheVariants.{Done, Fault, Moved, Nothing, Part, Ticked, Took}
 use Rattle.host_calls.specs.Counts.{bytes_left, counts_of, negotiation_ticks, phy_counts}
 use Rattle.host_calls.specs.StepOutcomes.{has_idle_phy, has_nothing_to_move, has_nothing_to_take, left_of_oldest, moved_or_part, nothing_if}
 

@@ -11,12 +11,12 @@ use Rattle.rx_engine.specs.Receiver.{Receiver}
 use Rattle.adapter.specs.HostFrames.{frames_held}
 use Rattle.adapter.specs.State.{AdapterState}
 use Rattle.adapter.specs.World.{World}
-use Rattle.adapter.specs.declared.offsets.TheConstants.{ICR}
-use Rattle.bus.specs.TickGroups.{without_go}
-use Rattle.bus.specs.Trails.{Trail, past_of}
-use Rattle.bus.specs.declared.event.Access.TheVariants.{Reads}
-use Rattle.bus.specs.declared.event.Event.{Event}
-use Rattle.bus.specs.declared.event.Event.TheVariants.{Accesses}
+use Rattle.adapter.specs.model_types.offsets.TheConstants.{ICR}
+use Rattle.adapter.specs.TickGroups.{without_go}
+use Rattle.adapter.specs.Trails.{Trail, past_of}
+use Rattle.adapter.specs.bus_types.event.Access.TheVariants.{Reads}
+use Rattle.adapter.specs.bus_types.event.Event.{Event}
+use Rattle.adapter.specs.bus_types.event.Event.TheVariants.{Accesses}
 use Rattle.dma_memory.specs.Layout.{Counts}
 use Rattle.driver.specs.declared.interrupt.Handled.{Handled}
 use Rattle.driver.specs.declared.interrupt.Handled.TheVariants.{NotMine}

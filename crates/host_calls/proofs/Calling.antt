@@ -5,10 +5,10 @@ use Rattle.std.proofs.lemmas.List.{append-nil}
 use Rattle.std.proofs.lemmas.List.Elements.{All-append}
 use Rattle.adapter.specs.World.{World}
 use Rattle.dma_memory.specs.Layout.{Counts}
-use Rattle.bus.proofs.Lists.{all-none}
-use Rattle.bus.specs.Law.{Happens}
-use Rattle.bus.specs.Pasts.{Past}
-use Rattle.bus.specs.declared.event.Access.{Access}
+use Rattle.adapter.proofs.Lists.{all-none}
+use Rattle.adapter.specs.Law.{Happens}
+use Rattle.adapter.specs.Pasts.{Past}
+use Rattle.adapter.specs.bus_types.event.Access.{Access}
 use Rattle.stations.specs.AtomicSteps.{AtomicStep}
 use Rattle.stations.specs.Stations.{StationState, world_at}
 use Rattle.stations.specs.AtomicRunLaws.{leads_join, past_join}
@@ -17,8 +17,8 @@ use Rattle.stations.specs.LentBuses.{Finished, HappenedLent, world_here}
 use Rattle.stations.specs.ToldTicks.{ComposesTold}
 use Rattle.stations.specs.declared.lent_bus.LentBus.{LentBus}
 use Rattle.stations.specs.declared.observer.Observer.{Ghosts as OfObserver}
-use Rattle.bus.proofs.Intervals.{flows_join, work_kept}
-use Rattle.bus.specs.Calls.{FlowsTo, HasNoForgottenWork, IsRefilled}
+use Rattle.adapter.proofs.Intervals.{flows_join, work_kept}
+use Rattle.adapter.specs.Calls.{FlowsTo, HasNoForgottenWork, IsRefilled}
 use Rattle.packet_socket.proofs.Intervals.{host-happens, host-join}
 use Rattle.packet_socket.specs.HostCalls.{Given, HostDid, HostFlowsTo, HostGoesTo, HostReady, host_did, driver_of, in_world}
 use Rattle.packet_socket.specs.HostState.{HostState}

@@ -5,16 +5,16 @@ use Rattle.std.specs.List.{All}
 use Rattle.std.proofs.lemmas.Bool.{ne_eqb}
 use Rattle.std.proofs.lemmas.List.{append-nil}
 use Rattle.std.proofs.lemmas.List.Elements.{filter-append}
-use Rattle.adapter.specs.declared.offsets.TheConstants.{ICR}
-use Rattle.bus.proofs.Lists.{all-head, all-tail}
-use Rattle.bus.specs.declared.event.Access.TheVariants.{Reads}
-use Rattle.bus.specs.declared.event.Event.TheVariants.{Accesses, Arrives, Steps}
+use Rattle.adapter.specs.model_types.offsets.TheConstants.{ICR}
+use Rattle.adapter.proofs.Lists.{all-head, all-tail}
+use Rattle.adapter.specs.bus_types.event.Access.TheVariants.{Reads}
+use Rattle.adapter.specs.bus_types.event.Event.TheVariants.{Accesses, Arrives, Steps}
 use Rattle.stations.specs.AtomicSteps.{At, AtomicStep, Idles, step_outcome}
 use Rattle.stations.specs.declared.outcomes.Numbered.{Numbered}
 use Rattle.adapter.specs.Outcomes.{FrameOutcome}
 use Rattle.stations.proofs.TickLoops.{counted-ticks}
 use Rattle.stations.specs.AtomicRunLaws.{noted_join}
-use Rattle.bus.specs.LivelyBuses.{most_accesses}
+use Rattle.adapter.specs.LivelyBuses.{most_accesses}
 use Rattle.stations.specs.AtomicRuns.{IsTick, counted_of, noted_of}
 use Rattle.host_calls.specs.CausesLaws.{noted_first}
 use Rattle.host_calls.specs.InterruptCauses.{ReadsIcrFirst}

@@ -20,13 +20,13 @@ use Rattle.adapter.specs.HostFrames.{finished_pieces, frames_held, frames_to_sen
 use Rattle.adapter.specs.Slots.{finished, slots_in_work, offered, outstanding, slot_of_work}
 use Rattle.adapter.specs.State.{IsAdapter}
 use Rattle.adapter.specs.World.{World, receive_ring}
-use Rattle.bus.specs.declared.event.Event.{Event}
-use Rattle.bus.specs.Trails.{Trail}
+use Rattle.adapter.specs.bus_types.event.Event.{Event}
+use Rattle.adapter.specs.Trails.{Trail}
 use Rattle.driver.specs.declared.receiver.Received.{Received}
 use Rattle.driver.specs.Parts.{buffers_of}
-use Rattle.bus.specs.Calls.{driver_in, frames_ended}
-use Rattle.bus.specs.DriverState.{DriverState, buffer_at, piece_numbers, owners}
-use Rattle.bus.specs.ReadyDrivers.{Ready}
+use Rattle.adapter.specs.Calls.{driver_in, frames_ended}
+use Rattle.adapter.specs.DriverState.{DriverState, buffer_at, piece_numbers, owners}
+use Rattle.adapter.specs.ReadyDrivers.{Ready}
 use Rattle.packet_socket.proofs.QueuedPieces.{entries-fit, waiting-numbers}
 use Rattle.packet_socket.specs.HostCalls.{Given, driver_of, given_for, held_for_socket, socket_frames, waiting_frame}
 use Rattle.packet_socket.specs.HostCalls.{without_socket}
@@ -40,7 +40,7 @@ use Rattle.host_calls.specs.Happenings.{Moved, missed, put, reached, toward}
 use Rattle.host_calls.specs.DrainedHosts.{CanBeDrained, Drains, DrainsInto, HoldsNothing, count_adapter_steps, count_frames, count_held}
 use Rattle.host_calls.specs.DrainedHosts.{count_pieces, pieces_left}
 use Rattle.host_calls.specs.ConnectedHosts.{connected}
-use Rattle.host_calls.specs.DrainSteps.{StepsInto, StepsOn, count_line, count_pending, count_steps, frame_sink}
+use Rattle.host_calls.specs.DrainSteps.{StepsInto, StepsOn, count_line, count_pending, count_steps, outlet}
 use Rattle.host_calls.proofs.AdapterSteps.{MovesNone, work-none}
 use Rattle.host_calls.proofs.JoinedSteps.{moves-missed, moves-put, moves-reached, moves-toward, nothing-stored}
 use Rattle.host_calls.proofs.PiecesLeft.{asked-most, count_ending, ending-most, finished-few, held-counted, pieces-append}
@@ -307,7 +307,7 @@ drains steps number a b h h' given on none stands adapter =
     }
 
 pub drains-into : {steps number room left : ℕ} {a b : List StationState} {h h' : HostState} {before behind : List Given}
-    → StepsInto steps number (frame_sink before room) (frame_sink behind left) (connected h a) (connected h' b)
+    → StepsInto steps number (outlet before room) (outlet behind left) (connected h a) (connected h' b)
     → HoldsNothing h' (world_at b number)
     → CanBeDrained h (world_at a number) → IsAdapter (world_at a number).adapter
     → DrainsInto steps number before behind (connected h a) (connected h' b)

@@ -3,12 +3,12 @@ use Rattle.std.proofs.Common.{◌≡◌, ◌==◌, ◌++◌, ◌∷◌, [], ℕ,
 use Rattle.std.specs.List.{All}
 use Rattle.std.proofs.lemmas.Bool.{eq-eqb}
 use Rattle.std.proofs.lemmas.List.Elements.{All-cons}
-use Rattle.bus.proofs.Lists.{all-none}
-use Rattle.bus.specs.Pasts.{Past}
-use Rattle.bus.specs.Trails.{IsAnswered, past_of}
-use Rattle.bus.specs.declared.event.Access.{Access}
-use Rattle.bus.specs.declared.event.Event.TheVariants.{Accesses, Arrives, Steps}
-use Rattle.bus.proofs.StepsThenAccess.{no_access}
+use Rattle.adapter.proofs.Lists.{all-none}
+use Rattle.adapter.specs.Pasts.{Past}
+use Rattle.adapter.specs.Trails.{IsAnswered, past_of}
+use Rattle.adapter.specs.bus_types.event.Access.{Access}
+use Rattle.adapter.specs.bus_types.event.Event.TheVariants.{Accesses, Arrives, Steps}
+use Rattle.adapter.proofs.StepsThenAccess.{no_access}
 use Rattle.stations.specs.AtomicSteps.{At, AtomicStep, CanHappen, Idles, after_atomic}
 use Rattle.stations.specs.Stations.{StationState, world_at}
 use Rattle.stations.proofs.HostTrails.{steps-alone}

@@ -3,9 +3,9 @@ use Rattle.std.proofs.Common.{◌≡◌, ◌++◌, [], List, Result, Ok, Err, �
 use Rattle.std.specs.List.{All}
 use Rattle.std.proofs.lemmas.List.Elements.{All-append}
 use Rattle.adapter.specs.World.{World}
-use Rattle.bus.proofs.Lists.{all-none}
-use Rattle.bus.specs.Pasts.{Past}
-use Rattle.bus.specs.declared.event.Access.{Access}
+use Rattle.adapter.proofs.Lists.{all-none}
+use Rattle.adapter.specs.Pasts.{Past}
+use Rattle.adapter.specs.bus_types.event.Access.{Access}
 use Rattle.dma_memory.specs.Layout.{Counts}
 use Rattle.stations.specs.AtomicRunLaws.{past_join}
 use Rattle.stations.specs.AtomicRuns.{past_at}

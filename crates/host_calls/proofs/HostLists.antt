@@ -9,17 +9,17 @@ use Rattle.std.specs.List.{flat_map}
 use Rattle.adapter.specs.Outcomes.{FrameOutcome, put_by as frames_put}
 use Rattle.adapter.specs.Steps.{ticked}
 use Rattle.adapter.specs.World.{World}
-use Rattle.adapter.specs.declared.outcome.Outcome.TheVariants as outcome
-use Rattle.adapter.specs.declared.step.StepKind.{StepKind}
-use Rattle.adapter.specs.declared.step.StepKind.TheVariants.{EepromTick, PhyTick, RxData, RxDone, TxPut, TxTake}
-use Rattle.registers.specs.Eerd.{is_pending}
-use Rattle.registers.specs.Mdic.{has_work}
+use Rattle.adapter.specs.model_types.outcome.Outcome.TheVariants as outcome
+use Rattle.adapter.specs.model_types.step.StepKind.{StepKind}
+use Rattle.adapter.specs.model_types.step.StepKind.TheVariants.{EepromTick, PhyTick, RxData, RxDone, TxPut, TxTake}
+use Rattle.eeprom.specs.Eerd.{is_pending}
+use Rattle.mdic_phy.specs.Mdic.{has_work}
 use Rattle.rx_engine.specs.Arriving.{kept}
 use Rattle.rx_engine.specs.declared.arrival.Fate.{Fate}
-use Rattle.bus.specs.StepsAndArrivals.{past_of_step}
-use Rattle.bus.specs.Trails.{Occurs, Trail, past_of, past_of_event, world_after}
-use Rattle.bus.specs.declared.event.Event.{Event}
-use Rattle.bus.specs.declared.event.Event.TheVariants.{Accesses, Arrives, Steps}
+use Rattle.adapter.specs.StepsAndArrivals.{past_of_step}
+use Rattle.adapter.specs.Trails.{Occurs, Trail, past_of, past_of_event, world_after}
+use Rattle.adapter.specs.bus_types.event.Event.{Event}
+use Rattle.adapter.specs.bus_types.event.Event.TheVariants.{Accesses, Arrives, Steps}
 use Rattle.stations.proofs.PlayedTicks.{put-is}
 use Rattle.stations.specs.AtomicSteps.{At, AtomicStep, Idles, after_atomic, outcome_of_event}
 use Rattle.stations.specs.Stations.{StationState, world_at}

@@ -7,15 +7,15 @@ use Rattle.std.specs.List.{All}
 use Rattle.std.proofs.lemmas.Bool.{leb-false}
 use Rattle.std.proofs.lemmas.Bool.Decides.{leb_tells}
 use Rattle.std.proofs.lemmas.List.{append-nil, map-append}
-use Rattle.registers.specs.Eerd as eeprom
-use Rattle.registers.specs.declared.eerd.ReadState.{ReadState}
-use Rattle.registers.specs.declared.eerd.ReadState.TheVariants as reading
-use Rattle.registers.specs.declared.mdic.Operation.{Operation}
-use Rattle.registers.specs.declared.mdic.Ticked.{Ticked}
-use Rattle.registers.specs.declared.phy.Negotiation.{Negotiation}
-use Rattle.registers.specs.declared.phy.Negotiation.TheVariants.{NotStarted, Running, Complete}
-use Rattle.registers.specs.Mdic.{has_work, phy_after_tick, told}
-use Rattle.registers.specs.Phy.{PhyState, counted_down, is_running}
+use Rattle.eeprom.specs.Eerd as eeprom
+use Rattle.eeprom.specs.declared.eerd.ReadState.{ReadState}
+use Rattle.eeprom.specs.declared.eerd.ReadState.TheVariants as reading
+use Rattle.mdic_phy.specs.declared.mdic.Operation.{Operation}
+use Rattle.mdic_phy.specs.declared.mdic.Ticked.{Ticked}
+use Rattle.mdic_phy.specs.declared.phy.Negotiation.{Negotiation}
+use Rattle.mdic_phy.specs.declared.phy.Negotiation.TheVariants.{NotStarted, Running, Complete}
+use Rattle.mdic_phy.specs.Mdic.{has_work, phy_after_tick, told}
+use Rattle.mdic_phy.specs.Phy.{PhyState, counted_down, is_running}
 use Rattle.rx_engine.specs.declared.arrival.Fate.{Fate}
 use Rattle.rx_engine.specs.declared.arrival.Fate.TheVariants.{Off, Stored}
 use Rattle.rx_engine.specs.Receiver.{oldest}
@@ -25,23 +25,23 @@ use Rattle.adapter.specs.State.{AdapterState, IsAdapter}
 use Rattle.adapter.specs.Steps.{Answers, after_phy_told, ticked}
 use Rattle.adapter.specs.Table.{register_at}
 use Rattle.adapter.specs.World.{World}
-use Rattle.adapter.specs.declared.register.Register.{Register}
-use Rattle.adapter.specs.declared.register.Register.TheVariants.{Icr, Ctrl, Eerd, Mdic, Rctl, Tctl, Receive}
-use Rattle.adapter.specs.declared.register.Register.TheVariants.{Transmit}
-use Rattle.adapter.specs.declared.register.RingRegister.TheVariants.{Tail}
-use Rattle.adapter.specs.declared.step.StepKind.{StepKind}
-use Rattle.adapter.specs.declared.step.StepKind.TheVariants.{TxTake, TxPut, RxData, RxDone, EepromTick, PhyTick}
+use Rattle.adapter.specs.model_types.register.Register.{Register}
+use Rattle.adapter.specs.model_types.register.Register.TheVariants.{Icr, Ctrl, Eerd, Mdic, Rctl, Tctl, Receive}
+use Rattle.adapter.specs.model_types.register.Register.TheVariants.{Transmit}
+use Rattle.adapter.specs.model_types.register.RingRegister.TheVariants.{Tail}
+use Rattle.adapter.specs.model_types.step.StepKind.{StepKind}
+use Rattle.adapter.specs.model_types.step.StepKind.TheVariants.{TxTake, TxPut, RxData, RxDone, EepromTick, PhyTick}
 use Rattle.adapter.specs.Outcomes.{FrameOutcome}
-use Rattle.adapter.specs.declared.outcome.Outcome.TheVariants as outcome
-use Rattle.bus.proofs.Lists.{all-head, all-left, all-right}
-use Rattle.bus.specs.declared.event.Access.TheVariants.{Loads, Reads, Stores, Writes}
-use Rattle.bus.specs.declared.event.Event.{Event}
-use Rattle.bus.specs.declared.event.Event.TheVariants.{Accesses, Arrives, Steps}
-use Rattle.bus.specs.StepsAndArrivals.{world_after_step}
-use Rattle.bus.specs.Trails.{Occurs, Trail, past_of, past_of_event, world_after}
+use Rattle.adapter.specs.model_types.outcome.Outcome.TheVariants as outcome
+use Rattle.adapter.proofs.Lists.{all-head, all-left, all-right}
+use Rattle.adapter.specs.bus_types.event.Access.TheVariants.{Loads, Reads, Stores, Writes}
+use Rattle.adapter.specs.bus_types.event.Event.{Event}
+use Rattle.adapter.specs.bus_types.event.Event.TheVariants.{Accesses, Arrives, Steps}
+use Rattle.adapter.specs.StepsAndArrivals.{world_after_step}
+use Rattle.adapter.specs.Trails.{Occurs, Trail, past_of, past_of_event, world_after}
 use Rattle.registers.specs.Bits.{is_set}
 use Rattle.registers.specs.Places.{ctrl_rst}
-use Rattle.adapter.specs.declared.register.RingRegister.TheVariants.{BaseLow, BaseHigh, Length, Head}
+use Rattle.adapter.specs.model_types.register.RingRegister.TheVariants.{BaseLow, BaseHigh, Length, Head}
 use Rattle.adapter.specs.Registers.{after_reset}
 use Rattle.host_calls.specs.CountedHosts.{IsCounted, IsNotMdic}
 use Rattle.host_calls.specs.Counts.{

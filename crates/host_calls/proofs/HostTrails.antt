@@ -3,17 +3,17 @@ use Rattle.std.proofs.Common.{◌≡◌, ◌≢◌, ◌==◌, ◌++◌, ◌∷�
 use Rattle.std.specs.List.{All}
 use Rattle.std.proofs.lemmas.Bool.Decides.{eqb_tells}
 use Rattle.std.proofs.lemmas.List.Elements.{All-cons}
-use Rattle.bus.proofs.Lists.{all-none}
-use Rattle.bus.proofs.Trails.{trail_happens}
-use Rattle.bus.specs.Law.{Happens}
-use Rattle.bus.specs.Trails.{IsStep}
-use Rattle.bus.specs.declared.event.Event.{Event}
-use Rattle.bus.specs.declared.event.Event.TheVariants.{Accesses, Arrives, Steps}
+use Rattle.adapter.proofs.Lists.{all-none}
+use Rattle.adapter.proofs.Trails.{trail_happens}
+use Rattle.adapter.specs.Law.{Happens}
+use Rattle.adapter.specs.Trails.{IsStep}
+use Rattle.adapter.specs.bus_types.event.Event.{Event}
+use Rattle.adapter.specs.bus_types.event.Event.TheVariants.{Accesses, Arrives, Steps}
 use Rattle.stations.specs.AtomicSteps.{At, AtomicStep, Idles, after_atomic}
 use Rattle.stations.specs.Stations.{StationState, world_at}
 use Rattle.stations.proofs.HostTrails.{steps-alone, trail-of}
 use Rattle.stations.specs.AtomicRuns.{IsOfCall, IsTick, LeadsTo, events_at, past_at}
-use Rattle.bus.proofs.StepsThenAccess.{no_access}
+use Rattle.adapter.proofs.StepsThenAccess.{no_access}
 
 elsewhere : (caller k host : ℕ) (event : Event) → k ≢ caller → IsOfCall caller (At host event) → (later : List Event) → All IsStep later
     → All IsStep ((if k == host then event ∷ [] else []) ++ later)

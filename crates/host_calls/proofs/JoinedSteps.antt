@@ -6,9 +6,9 @@ use Rattle.std.proofs.lemmas.List.Elements.{All-append}
 use Rattle.std.proofs.lemmas.Grind.{flat_map-append}
 use Rattle.registers.specs.Bits.{HasBit}
 use Rattle.registers.specs.Places.{rctl_en}
-use Rattle.rx_engine.specs.Registers.{FilterRegisters}
-use Rattle.bus.proofs.Lists.{all-none}
-use Rattle.bus.specs.declared.event.Event.{Event}
+use Rattle.rx_filter.specs.Registers.{FilterRegisters}
+use Rattle.adapter.proofs.Lists.{all-none}
+use Rattle.adapter.specs.bus_types.event.Event.{Event}
 use Rattle.stations.specs.AtomicSteps.{AtomicStep}
 use Rattle.stations.specs.Stations.{StationState, world_at}
 use Rattle.stations.specs.AtomicRunLaws.{leads_join}
@@ -22,7 +22,7 @@ use Rattle.host_calls.proofs.GroupsKept.{stay-alone, stay-join}
 use Rattle.host_calls.proofs.HostTrails.{happens-alone, none-alone}
 use Rattle.host_calls.specs.DrainedHosts.{CanBeDrained, IsDrainStep}
 use Rattle.host_calls.specs.ConnectedHosts.{ConnectedHost, connected}
-use Rattle.host_calls.specs.DrainSteps.{FrameSinkState, StepsInto, StepsOn, frame_sink, steps_of}
+use Rattle.host_calls.specs.DrainSteps.{OutletState, StepsInto, StepsOn, outlet, steps_of}
 
 pub stands-on : {steps number : ℕ} {a b : List StationState} {h h' : HostState} {given : List Given}
     → StepsOn steps number given (connected h a) (connected h' b)
@@ -123,7 +123,7 @@ nothing-stored number k played a b n leads moved =
 
 pub into-none : {steps number room : ℕ} {a b : List StationState} {h h' : HostState} {had : List Given}
     → StepsOn steps number [] (connected h a) (connected h' b)
-    → StepsInto steps number (frame_sink had room) (frame_sink had room) (connected h a) (connected h' b)
+    → StepsInto steps number (outlet had room) (outlet had room) (connected h a) (connected h' b)
 into-none {had = had} on = record {
   given = [];
   appended = sym (Rattle.std.proofs.lemmas.List.append-nil had);
@@ -132,9 +132,9 @@ into-none {had = had} on = record {
 }
 
 pub into-join : {m n number : ℕ} {a b c : List StationState} {h1 h2 h3 : HostState} {x y z : List Given} {p q r : ℕ}
-    → StepsInto m number (frame_sink x p) (frame_sink y q) (connected h1 a) (connected h2 b)
-    → StepsInto n number (frame_sink y q) (frame_sink z r) (connected h2 b) (connected h3 c)
-    → StepsInto (m + n) number (frame_sink x p) (frame_sink z r) (connected h1 a) (connected h3 c)
+    → StepsInto m number (outlet x p) (outlet y q) (connected h1 a) (connected h2 b)
+    → StepsInto n number (outlet y q) (outlet z r) (connected h2 b) (connected h3 c)
+    → StepsInto (m + n) number (outlet x p) (outlet z r) (connected h1 a) (connected h3 c)
 into-join {x = x} one two = record {
   given = one.given ++ two.given;
   appended =
@@ -146,12 +146,12 @@ into-join {x = x} one two = record {
 
 -- The step of a drain was taken, or no step applied.
 
-pub one-step : {stepped : Bool} {number : ℕ} {before after : FrameSinkState} {old new : ConnectedHost} → stepped ≡ true
+pub one-step : {stepped : Bool} {number : ℕ} {before after : OutletState} {old new : ConnectedHost} → stepped ≡ true
     → StepsInto (steps_of stepped) number before after old new → StepsInto 1 number before after old new
 one-step {number = number} {before} {after} {old} {new} took =
     subst (λ (stepped : Bool). StepsInto (steps_of stepped) number before after old new) took
 
-pub no-step : {stepped : Bool} {n number : ℕ} {before after : FrameSinkState} {old new : ConnectedHost} → stepped ≡ false
+pub no-step : {stepped : Bool} {n number : ℕ} {before after : OutletState} {old new : ConnectedHost} → stepped ≡ false
     → StepsInto (n + steps_of stepped) number before after old new → StepsInto n number before after old new
 no-step {n = n} {number} {before} {after} {old} {new} none into =
     let same : n + 0 ≡ n = omega arith in

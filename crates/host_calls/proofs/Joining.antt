@@ -4,7 +4,7 @@ use Rattle.std.proofs.Common.{append_assoc, sym, ◌∙◌}
 use Rattle.std.proofs.lemmas.Grind.{flat_map-append}
 use Rattle.std.proofs.lemmas.List.Sums.{sum_by-append}
 use Rattle.rx_engine.specs.Arriving.{kept}
-use Rattle.rx_engine.specs.Registers.{FilterRegisters}
+use Rattle.rx_filter.specs.Registers.{FilterRegisters}
 use Rattle.host_calls.specs.Fates.{AreGroupsAfter, AreRightByList, AreRightFates, Came, Emptied, Joins, Mark, Quits, Reception, SwitchedOff}
 use Rattle.host_calls.specs.Fates.{SwitchedOn, Went, buffered_after, enabled_after, mark_by, marks}
 use Rattle.host_calls.specs.Happenings.{

@@ -1,8 +1,8 @@
 -- The laws of a call's outcomes: for any steps that play a call, and for a call over a lent bus.
 use Rattle.std.proofs.Common.{◌≡◌, ◌++◌, ℕ, List, sym, ap, subst, ◌∙◌}
-use Rattle.bus.specs.Pasts.{Past}
-use Rattle.bus.specs.TickGroups.{without_go}
-use Rattle.bus.specs.declared.event.Access.{Access}
+use Rattle.adapter.specs.Pasts.{Past}
+use Rattle.adapter.specs.TickGroups.{without_go}
+use Rattle.adapter.specs.bus_types.event.Access.{Access}
 use Rattle.stations.proofs.Lengths.{length-stays}
 use Rattle.stations.specs.AtomicSteps.{AtomicStep}
 use Rattle.stations.specs.Stations.{StationState}

@@ -1,10 +1,10 @@
 -- `HappenedLent` of two consecutive intervals joins, and its atomic steps end with an access.
 use Rattle.std.proofs.Common.{◌≡◌, ◌++◌, ◌∷◌, [], ℕ, false, List, map, refl, sym, ap, subst, ◌∙◌}
 use Rattle.std.specs.Prelude.{⊤}
-use Rattle.bus.specs.Pasts.{Past, joined}
-use Rattle.bus.specs.TickGroups.{behind_group, group_of, played_in}
-use Rattle.bus.specs.declared.event.Access.{Access}
-use Rattle.bus.specs.declared.event.Event.TheVariants.{Accesses, Arrives, Steps}
+use Rattle.adapter.specs.Pasts.{Past, joined}
+use Rattle.adapter.specs.TickGroups.{behind_group, group_of, played_in}
+use Rattle.adapter.specs.bus_types.event.Access.{Access}
+use Rattle.adapter.specs.bus_types.event.Event.TheVariants.{Accesses, Arrives, Steps}
 use Rattle.stations.specs.AtomicRuns.{IsOfCall, LeadsTo, is_go}
 use Rattle.stations.specs.AtomicSteps.{At, AtomicStep, Idles, IsNoAccess, after_atomic, tick_of}
 use Rattle.stations.specs.LentBuses.{HappenedLent}

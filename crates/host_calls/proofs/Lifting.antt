@@ -4,9 +4,9 @@ use Rattle.std.specs.List.{All}
 use Rattle.std.proofs.lemmas.List.{append_cancel_right}
 use Rattle.std.proofs.lemmas.List.Elements.{filter-append}
 use Rattle.adapter.specs.HostFrames.{frames_held}
-use Rattle.rx_engine.specs.Addresses.{ether_type}
-use Rattle.bus.specs.Pasts.{Past, nothing}
-use Rattle.bus.specs.declared.event.Access.{Access}
+use Rattle.rx_filter.specs.Addresses.{ether_type}
+use Rattle.adapter.specs.Pasts.{Past, nothing}
+use Rattle.adapter.specs.bus_types.event.Access.{Access}
 use Rattle.stations.specs.AtomicRuns.{past_at}
 use Rattle.stations.specs.AtomicSteps.{AtomicStep}
 use Rattle.stations.specs.LentBuses.{Finished, HappenedLent, world_here}

@@ -3,7 +3,7 @@ use Rattle.std.proofs.Common.{◌≡◌, ◌++◌, ◌∷◌, [], ℕ, List, map
 use Rattle.std.specs.List.{flat_map}
 use Rattle.std.proofs.lemmas.List.{append-nil, append_cancel_right, map-append}
 use Rattle.descriptors.specs.Frames.{padded}
-use Rattle.bus.proofs.Lists.{append-empty}
+use Rattle.adapter.proofs.Lists.{append-empty}
 use Rattle.host_calls.specs.Happenings.{accepted, accepted_in_one}
 use Rattle.host_calls.specs.Lists.{AcceptedArePadded, ListGoes, GoesBehind, GoesJoin, GoesToOneEnd, GoesWithoutDrops}
 

@@ -6,35 +6,35 @@ use Rattle.std.proofs.lemmas.List.{append-nil}
 use Rattle.std.specs.List.{flat_map}
 use Rattle.registers.specs.Bits.{HasBit}
 use Rattle.registers.specs.Places.{rctl_en}
-use Rattle.registers.specs.Eerd.{is_pending}
-use Rattle.registers.specs.Mdic as mdi
-use Rattle.registers.specs.declared.mdic.Ticked.{Ticked}
+use Rattle.eeprom.specs.Eerd.{is_pending}
+use Rattle.mdic_phy.specs.Mdic as mdi
+use Rattle.mdic_phy.specs.declared.mdic.Ticked.{Ticked}
 use Rattle.rx_engine.specs.declared.arrival.Fate.{Fate}
 use Rattle.rx_engine.specs.declared.arrival.Fate.TheVariants.{Off, Illegal, Filtered, Missed, Stored}
-use Rattle.rx_engine.specs.Registers.{FilterRegisters}
+use Rattle.rx_filter.specs.Registers.{FilterRegisters}
 use Rattle.adapter.specs.Receiving.{IsFate, after_arrive}
 use Rattle.adapter.specs.Registers.{after_reset, by_row, is_reset, left_by_read, left_by_write, write_of}
 use Rattle.adapter.specs.State.{AdapterState}
 use Rattle.adapter.specs.Table.{register_at, row_of}
-use Rattle.adapter.specs.declared.register.Register.{Register}
-use Rattle.adapter.specs.declared.register.Register.TheVariants.{Ctrl, Icr, Receive, Transmit}
-use Rattle.adapter.specs.declared.register.RingRegister.{RingRegister}
-use Rattle.adapter.specs.declared.register.RingRegister.TheVariants.{Tail}
+use Rattle.adapter.specs.model_types.register.Register.{Register}
+use Rattle.adapter.specs.model_types.register.Register.TheVariants.{Ctrl, Icr, Receive, Transmit}
+use Rattle.adapter.specs.model_types.register.RingRegister.{RingRegister}
+use Rattle.adapter.specs.model_types.register.RingRegister.TheVariants.{Tail}
 use Rattle.adapter.specs.Steps.{Answers, after_phy_told, ticked}
 use Rattle.adapter.specs.World.{World}
 use Rattle.adapter.specs.Outcomes.{FrameOutcome}
-use Rattle.adapter.specs.declared.outcome.Outcome.TheVariants as outcome
-use Rattle.adapter.specs.declared.step.StepKind.{StepKind}
-use Rattle.adapter.specs.declared.step.StepKind.TheVariants.{EepromTick, PhyTick, RxData, RxDone, TxPut, TxTake}
-use Rattle.bus.proofs.Lists.{all-left, all-right}
-use Rattle.bus.proofs.Settings.{stays-off, writes-append, writes-set}
-use Rattle.bus.specs.Settings.{IsOff, LeavesReceiver, Settings, settings_of, writes_in}
-use Rattle.bus.specs.StepsAndArrivals.{world_after_step}
-use Rattle.bus.specs.Trails.{Occurs, Trail, past_of, past_of_event, world_after}
-use Rattle.bus.specs.declared.event.Access.{Access}
-use Rattle.bus.specs.declared.event.Access.TheVariants.{Loads, Reads, Stores, Writes}
-use Rattle.bus.specs.declared.event.Event.{Event}
-use Rattle.bus.specs.declared.event.Event.TheVariants.{Accesses, Arrives, Steps}
+use Rattle.adapter.specs.model_types.outcome.Outcome.TheVariants as outcome
+use Rattle.adapter.specs.model_types.step.StepKind.{StepKind}
+use Rattle.adapter.specs.model_types.step.StepKind.TheVariants.{EepromTick, PhyTick, RxData, RxDone, TxPut, TxTake}
+use Rattle.adapter.proofs.Lists.{all-left, all-right}
+use Rattle.adapter.proofs.Settings.{stays-off, writes-append, writes-set}
+use Rattle.adapter.specs.Settings.{IsOff, LeavesReceiver, Settings, settings_of, writes_in}
+use Rattle.adapter.specs.StepsAndArrivals.{world_after_step}
+use Rattle.adapter.specs.Trails.{Occurs, Trail, past_of, past_of_event, world_after}
+use Rattle.adapter.specs.bus_types.event.Access.{Access}
+use Rattle.adapter.specs.bus_types.event.Access.TheVariants.{Loads, Reads, Stores, Writes}
+use Rattle.adapter.specs.bus_types.event.Event.{Event}
+use Rattle.adapter.specs.bus_types.event.Event.TheVariants.{Accesses, Arrives, Steps}
 use Rattle.stations.specs.Stations.{world_at}
 use Rattle.stations.proofs.HostTrails.{trail-of}
 use Rattle.stations.specs.AtomicRuns.{events_at}

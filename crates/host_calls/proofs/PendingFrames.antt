@@ -24,12 +24,12 @@ use Rattle.adapter.specs.Running.{CanTransmit}
 use Rattle.adapter.specs.Slots.{finished, slots_in_work, offered, outstanding, slot_of_work}
 use Rattle.adapter.specs.State.{IsAdapter}
 use Rattle.adapter.specs.World.{World, receive_ring, transmit_ring}
-use Rattle.bus.proofs.EachArea.{OfAreas, of-areas}
-use Rattle.bus.proofs.Lists.{all-head, all-left, all-unmapped, all-weaker}
-use Rattle.bus.proofs.Rings.{dealt-right, outstanding-inside}
-use Rattle.bus.proofs.FramesCounted.{slots_have_frames}
-use Rattle.bus.specs.DriverState.{DriverState, buffer_at}
-use Rattle.bus.specs.ReadyDrivers.{Ready}
+use Rattle.adapter.proofs.EachArea.{OfAreas, of-areas}
+use Rattle.adapter.proofs.Lists.{all-head, all-left, all-unmapped, all-weaker}
+use Rattle.adapter.proofs.Rings.{dealt-right, outstanding-inside}
+use Rattle.adapter.proofs.FramesCounted.{slots_have_frames}
+use Rattle.adapter.specs.DriverState.{DriverState, buffer_at}
+use Rattle.adapter.specs.ReadyDrivers.{Ready}
 use Rattle.packet_socket.specs.HostCalls.{HostReady}
 use Rattle.packet_socket.specs.HostState.{HostState}
 use Rattle.stations.specs.Stations.{StationState, world_at}

@@ -17,12 +17,12 @@ use Rattle.adapter.specs.HostFrames.{finished_pieces, frames_held}
 use Rattle.adapter.specs.Receiving.{is_ending}
 use Rattle.adapter.specs.Slots.{slot_of_work}
 use Rattle.adapter.specs.World.{World}
-use Rattle.bus.proofs.Lists.{all-head, all-right, all-tail}
+use Rattle.adapter.proofs.Lists.{all-head, all-right, all-tail}
 use Rattle.driver.specs.Parts.{AreFrames, IsWholeFrame}
 use Rattle.driver.specs.declared.receiver.Received.{Received}
-use Rattle.bus.proofs.TakenSlots.{parts_are_few}
-use Rattle.bus.specs.DriverState.{DriverState}
-use Rattle.bus.specs.ReadyDrivers.{Ready}
+use Rattle.adapter.proofs.TakenSlots.{parts_are_few}
+use Rattle.adapter.specs.DriverState.{DriverState}
+use Rattle.adapter.specs.ReadyDrivers.{Ready}
 use Rattle.host_calls.specs.DrainedHosts.{buffers_for, count_left, count_pieces, count_queued_pieces, pieces_left}
 use Rattle.host_calls.specs.DrainSteps.{count_pending}
 
@@ -49,7 +49,7 @@ queued-least (received ∷ later) frames =
     omega (
       arith,
       (all-head IsWholeFrame received later frames).size.least,
-      sum_by-cons (λ (received : Received). buffers_for received.length) received later,
+      sum_by-cons (λ (received : Received). buffers_for received.len) received later,
       queued-least later (all-tail IsWholeFrame received later frames),
     )
 

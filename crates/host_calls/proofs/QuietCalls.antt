@@ -10,14 +10,14 @@ use Rattle.adapter.specs.State.{AdapterState}
 use Rattle.adapter.specs.Registers.{after_read, after_write}
 use Rattle.adapter.specs.Table.{register_at}
 use Rattle.adapter.specs.World.{World}
-use Rattle.adapter.specs.declared.offsets.TheConstants.{ICR, MPC, RDT, TDT}
-use Rattle.bus.proofs.Lists.{all-head, all-none, all-tail}
-use Rattle.bus.specs.TickGroups.{without_go}
-use Rattle.bus.specs.Trails.{Trail, past_of, world_after_access}
-use Rattle.bus.specs.declared.event.Access.{Access}
-use Rattle.bus.specs.declared.event.Access.TheVariants.{Loads, Reads, Stores, Writes}
-use Rattle.bus.specs.declared.event.Event.{Event}
-use Rattle.bus.specs.declared.event.Event.TheVariants.{Accesses, Arrives, Steps}
+use Rattle.adapter.specs.model_types.offsets.TheConstants.{ICR, MPC, RDT, TDT}
+use Rattle.adapter.proofs.Lists.{all-head, all-none, all-tail}
+use Rattle.adapter.specs.TickGroups.{without_go}
+use Rattle.adapter.specs.Trails.{Trail, past_of, world_after_access}
+use Rattle.adapter.specs.bus_types.event.Access.{Access}
+use Rattle.adapter.specs.bus_types.event.Access.TheVariants.{Loads, Reads, Stores, Writes}
+use Rattle.adapter.specs.bus_types.event.Event.{Event}
+use Rattle.adapter.specs.bus_types.event.Event.TheVariants.{Accesses, Arrives, Steps}
 use Rattle.dma_memory.specs.Layout.{Counts}
 use Rattle.stations.specs.AtomicSteps.{At, AtomicStep, Idles, after_atomic, tick_of}
 use Rattle.stations.specs.Stations.{StationState}

@@ -5,8 +5,8 @@ use Rattle.std.proofs.Common.{ℕ, Bool, true, false, Option, Some, None, List, 
 use Rattle.std.proofs.Common.{arith}
 use Rattle.std.specs.List.{All}
 use Rattle.std.proofs.lemmas.Nat.{and_comm}
-use Rattle.registers.specs.Mdic.{told}
-use Rattle.registers.specs.declared.mdic.Ticked.{Ticked}
+use Rattle.mdic_phy.specs.Mdic.{told}
+use Rattle.mdic_phy.specs.declared.mdic.Ticked.{Ticked}
 use Rattle.registers.specs.Bits.{HasBit, Meet}
 use Rattle.registers.specs.Laws.{Meet-places}
 use Rattle.rx_engine.specs.Receiver.{Receiver}
@@ -19,19 +19,19 @@ use Rattle.adapter.specs.State.{AdapterState}
 use Rattle.adapter.specs.Steps.{after_phy_told, ticked}
 use Rattle.adapter.specs.Transmitting.{TakeAnswers}
 use Rattle.adapter.specs.World.{World}
-use Rattle.adapter.specs.declared.step.StepKind.TheVariants.{EepromTick, PhyTick, RxData, RxDone, TxPut, TxTake}
+use Rattle.adapter.specs.model_types.step.StepKind.TheVariants.{EepromTick, PhyTick, RxData, RxDone, TxPut, TxTake}
 use Rattle.adapter.specs.Outcomes.{FrameOutcome}
-use Rattle.adapter.specs.declared.outcome.Outcome.TheVariants.{Done, Fault, Moved, Nothing, Part, Put, Took, WireFull}
+use Rattle.adapter.specs.model_types.outcome.Outcome.TheVariants.{Done, Fault, Moved, Nothing, Part, Put, Took, WireFull}
 use Rattle.bring_up.specs.WrittenRegisters.{handled_causes}
-use Rattle.bus.proofs.Lists.{all-head, all-none, all-tail}
-use Rattle.bus.proofs.TrailCauses.{recorded_causes_stay}
-use Rattle.bus.proofs.Trails.{event_happens}
-use Rattle.bus.specs.Accesses.{LeavesCauses}
-use Rattle.bus.specs.Trails.{IsStep, Occurs, Trail, past_of, world_after}
-use Rattle.bus.specs.declared.event.Access.{Access}
-use Rattle.bus.specs.declared.event.Event.{Event}
-use Rattle.bus.specs.declared.event.Event.TheVariants.{Accesses, Arrives, Steps}
-use Rattle.bus.proofs.StepsThenAccess.{no_access}
+use Rattle.adapter.proofs.Lists.{all-head, all-none, all-tail}
+use Rattle.adapter.proofs.TrailCauses.{recorded_causes_stay}
+use Rattle.adapter.proofs.Trails.{event_happens}
+use Rattle.adapter.specs.Accesses.{LeavesCauses}
+use Rattle.adapter.specs.Trails.{IsStep, Occurs, Trail, past_of, world_after}
+use Rattle.adapter.specs.bus_types.event.Access.{Access}
+use Rattle.adapter.specs.bus_types.event.Event.{Event}
+use Rattle.adapter.specs.bus_types.event.Event.TheVariants.{Accesses, Arrives, Steps}
+use Rattle.adapter.proofs.StepsThenAccess.{no_access}
 use Rattle.stations.specs.AtomicSteps.{outcome_of_event}
 use Rattle.host_calls.specs.InterruptCauses.{AreQuietEvents, IsQuietOutcome, ends_after}
 

@@ -10,18 +10,18 @@ use Rattle.rx_engine.specs.declared.engine.TheConstants.{MOST_FRAMES}
 use Rattle.dma_memory.specs.Layout.{Counts, descriptor_bytes}
 use Rattle.adapter.specs.HostFrames.{frames_held, frames_to_send}
 use Rattle.adapter.specs.State.{IsAdapter}
-use Rattle.adapter.specs.declared.offsets.TheConstants.{CTRL, MPC, MTA, RCTL, RDBAL, RDT, VFTA}
-use Rattle.bus.specs.LivelyBuses.{most_accesses}
-use Rattle.bus.specs.Pasts.{Past, joined}
-use Rattle.bus.specs.Settings.{Write}
-use Rattle.bus.specs.declared.event.Access.{Access}
-use Rattle.bus.specs.declared.event.Access.TheVariants.{Reads, Writes}
+use Rattle.adapter.specs.model_types.offsets.TheConstants.{CTRL, MPC, MTA, RCTL, RDBAL, RDT, VFTA}
+use Rattle.adapter.specs.LivelyBuses.{most_accesses}
+use Rattle.adapter.specs.Pasts.{Past, joined}
+use Rattle.adapter.specs.Settings.{Write}
+use Rattle.adapter.specs.bus_types.event.Access.{Access}
+use Rattle.adapter.specs.bus_types.event.Access.TheVariants.{Reads, Writes}
 use Rattle.bring_up.specs.ClearedDescriptors.{clears, clears_from}
 use Rattle.bring_up.specs.DriverSteps.{accesses_of}
 use Rattle.bring_up.specs.FilterTables.{address_writes, table_writes}
 use Rattle.bring_up.specs.RingRegisters.{receive_control, ring_setup_writes}
-use Rattle.bus.specs.Calls.{stores_from}
-use Rattle.bus.specs.DriverState.{DriverSetup, DriverState, receive_slot}
+use Rattle.adapter.specs.Calls.{stores_from}
+use Rattle.adapter.specs.DriverState.{DriverSetup, DriverState, receive_slot}
 use Rattle.stations.proofs.HostTrails.{trail-of}
 use Rattle.stations.specs.AtomicRunLaws.{leads_join, past_join, steps_told_join}
 use Rattle.stations.specs.AtomicRuns.{LeadsTo, counted_of, events_at, past_at, steps_told}

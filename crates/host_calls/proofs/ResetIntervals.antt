@@ -6,22 +6,22 @@ use Rattle.std.proofs.lemmas.Bool.{eq-eqb}
 use Rattle.registers.specs.Bits.{HasBit}
 use Rattle.registers.specs.Laws.{HasBit-zero}
 use Rattle.registers.specs.Places.{rctl_en}
-use Rattle.rx_engine.specs.Registers.{FilterRegisters}
+use Rattle.rx_filter.specs.Registers.{FilterRegisters}
 use Rattle.adapter.specs.Registers.{left_by_read, left_by_write}
 use Rattle.adapter.specs.TableLaws.{register_at-there}
 use Rattle.adapter.specs.World.{World}
-use Rattle.adapter.specs.declared.register.Register.{Register}
-use Rattle.adapter.specs.declared.register.Register.TheVariants.{Mpc, Rctl}
-use Rattle.adapter.specs.declared.offsets.TheConstants.{MPC, RCTL}
-use Rattle.bus.proofs.Settings.{happens-off}
-use Rattle.bus.specs.AdaptersAtRest.{NoFrame}
-use Rattle.bus.specs.Pasts.{Past, joined, nothing}
-use Rattle.bus.specs.Settings.{IsOff, NoArrival}
-use Rattle.bus.specs.Trails.{Trail, past_of, world_after_access}
-use Rattle.bus.specs.declared.event.Access.{Access}
-use Rattle.bus.specs.declared.event.Access.TheVariants.{Reads, Writes}
-use Rattle.bus.specs.declared.event.Event.{Event}
-use Rattle.bus.specs.declared.event.Event.TheVariants.{Accesses}
+use Rattle.adapter.specs.model_types.register.Register.{Register}
+use Rattle.adapter.specs.model_types.register.Register.TheVariants.{Mpc, Rctl}
+use Rattle.adapter.specs.model_types.offsets.TheConstants.{MPC, RCTL}
+use Rattle.adapter.proofs.Settings.{happens-off}
+use Rattle.adapter.specs.AdaptersAtRest.{NoFrame}
+use Rattle.adapter.specs.Pasts.{Past, joined, nothing}
+use Rattle.adapter.specs.Settings.{IsOff, NoArrival}
+use Rattle.adapter.specs.Trails.{Trail, past_of, world_after_access}
+use Rattle.adapter.specs.bus_types.event.Access.{Access}
+use Rattle.adapter.specs.bus_types.event.Access.TheVariants.{Reads, Writes}
+use Rattle.adapter.specs.bus_types.event.Event.{Event}
+use Rattle.adapter.specs.bus_types.event.Event.TheVariants.{Accesses}
 use Rattle.stations.proofs.HostTrails.{trail-of}
 use Rattle.stations.specs.AtomicRunLaws.{past_join}
 use Rattle.stations.specs.AtomicRuns.{IsTick, LeadsTo, events_at, past_at}

@@ -3,10 +3,10 @@ use Rattle.std.proofs.Common.{◌≡◌, ◌++◌, ◌∷◌, [], ℕ, true, Lis
 use Rattle.registers.specs.Places.{alone, ctrl_rst}
 use Rattle.adapter.specs.HostFrames.{frames_held, frames_to_send}
 use Rattle.adapter.specs.World.{World}
-use Rattle.adapter.specs.declared.offsets.TheConstants.{CTRL}
-use Rattle.bus.specs.Link.{HasLink}
-use Rattle.bus.specs.Pasts.{joined}
-use Rattle.bus.specs.declared.event.Access.TheVariants.{Writes}
+use Rattle.adapter.specs.model_types.offsets.TheConstants.{CTRL}
+use Rattle.adapter.specs.Link.{HasLink}
+use Rattle.adapter.specs.Pasts.{joined}
+use Rattle.adapter.specs.bus_types.event.Access.TheVariants.{Writes}
 use Rattle.stations.specs.AtomicRunLaws.{leads_join}
 use Rattle.stations.specs.AtomicSteps.{AtomicStep}
 use Rattle.stations.specs.LentBuses.{Finished, world_here}
@@ -14,9 +14,9 @@ use Rattle.stations.specs.Stations.{world_at}
 use Rattle.stations.specs.ToldTicks.{ComposesTold}
 use Rattle.stations.specs.declared.lent_bus.LentBus.{LentBus}
 use Rattle.stations.specs.declared.observer.Observer.{Ghosts as OfObserver}
-use Rattle.bus.specs.Calls.{GoesTo, HasNoForgottenWork, SumsMisses, driver_did, driver_in, missed_added}
-use Rattle.bus.specs.DriverState.{DriverSetup, DriverState, holding, with_owners}
-use Rattle.bus.specs.Resets.{reset_driver}
+use Rattle.adapter.specs.Calls.{GoesTo, HasNoForgottenWork, SumsMisses, driver_did, driver_in, missed_added}
+use Rattle.adapter.specs.DriverState.{DriverSetup, DriverState, holding, with_owners}
+use Rattle.adapter.specs.Resets.{reset_driver}
 use Rattle.bring_up.specs.ConfiguredAdapters.{HasSetup}
 use Rattle.bring_up.specs.Groups.{HasTable}
 use Rattle.driver.specs.Resetting.{later_accesses, quiet_accesses, stop_accesses}

@@ -4,7 +4,7 @@ use Rattle.std.proofs.Common.{arith, refl, sym, ap, subst, ◌∙◌}
 use Rattle.rx_engine.specs.declared.engine.TheConstants.{MOST_FRAMES}
 use Rattle.adapter.specs.HostFrames.{frames_held, frames_to_send}
 use Rattle.adapter.specs.State.{IsAdapter}
-use Rattle.bus.specs.LivelyBuses.{most_accesses}
+use Rattle.adapter.specs.LivelyBuses.{most_accesses}
 use Rattle.stations.specs.AtomicRuns.{steps_told}
 use Rattle.stations.specs.AtomicSteps.{AtomicStep}
 use Rattle.stations.specs.LentBuses.{Finished, world_here}

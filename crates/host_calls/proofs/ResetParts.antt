@@ -3,19 +3,19 @@ use Rattle.std.proofs.Common.{◌≡◌, ◌++◌, ◌∷◌, [], ℕ, true, IsT
 use Rattle.std.specs.List.{All}
 use Rattle.std.proofs.lemmas.List.{append-nil}
 use Rattle.registers.specs.Places.{alone, ctrl_rst}
-use Rattle.rx_engine.specs.NumberTables.{HasNumbers, numbers_of_groups}
-use Rattle.rx_engine.specs.Registers.{FilterRegisters}
+use Rattle.rx_filter.specs.NumberTables.{HasNumbers, numbers_of_groups}
+use Rattle.rx_filter.specs.Registers.{FilterRegisters}
 use Rattle.adapter.specs.HostFrames.{frames_held, frames_to_send}
 use Rattle.adapter.specs.World.{World}
-use Rattle.adapter.specs.declared.offsets.TheConstants.{CTRL, ICR, IMC, MPC, RCTL}
-use Rattle.bus.proofs.Links.{happenings_keep_link}
-use Rattle.bus.proofs.Lists.{append-empty}
-use Rattle.bus.specs.AdaptersAtRest.{NoFrame}
-use Rattle.bus.specs.Law.{Happens}
-use Rattle.bus.specs.Link.{HasLink}
-use Rattle.bus.specs.Pasts.{Past, joined}
-use Rattle.bus.specs.declared.event.Access.{Access}
-use Rattle.bus.specs.declared.event.Access.TheVariants.{Reads, Writes}
+use Rattle.adapter.specs.model_types.offsets.TheConstants.{CTRL, ICR, IMC, MPC, RCTL}
+use Rattle.adapter.proofs.Links.{happenings_keep_link}
+use Rattle.adapter.proofs.Lists.{append-empty}
+use Rattle.adapter.specs.AdaptersAtRest.{NoFrame}
+use Rattle.adapter.specs.Law.{Happens}
+use Rattle.adapter.specs.Link.{HasLink}
+use Rattle.adapter.specs.Pasts.{Past, joined}
+use Rattle.adapter.specs.bus_types.event.Access.{Access}
+use Rattle.adapter.specs.bus_types.event.Access.TheVariants.{Reads, Writes}
 use Rattle.bring_up.proofs.WritesAtRest.{reset-written}
 use Rattle.bring_up.specs.ConfiguredAdapters.{AreWords, FilterHasSetup, HasSetup}
 use Rattle.bring_up.specs.RingRegisters.{receive_control}
@@ -24,11 +24,11 @@ use Rattle.stations.specs.AtomicRunLaws.{leads_join, past_join}
 use Rattle.stations.specs.AtomicRuns.{IsTick, LeadsTo, past_at}
 use Rattle.stations.specs.AtomicSteps.{AtomicStep, after_atomic}
 use Rattle.stations.specs.Stations.{StationState, world_at}
-use Rattle.bus.proofs.Steps.{goes-happens}
-use Rattle.bus.proofs.Intervals.{goes_join}
-use Rattle.bus.specs.Calls.{GoesTo, HasNoForgottenWork, SumsMisses, driver_did, driver_in, missed_added}
-use Rattle.bus.specs.DriverState.{DriverState, holding}
-use Rattle.bus.specs.ReadyDrivers.{Stands}
+use Rattle.adapter.proofs.Steps.{goes-happens}
+use Rattle.adapter.proofs.Intervals.{goes_join}
+use Rattle.adapter.specs.Calls.{GoesTo, HasNoForgottenWork, SumsMisses, driver_did, driver_in, missed_added}
+use Rattle.adapter.specs.DriverState.{DriverState, holding}
+use Rattle.adapter.specs.ReadyDrivers.{Stands}
 use Rattle.driver.proofs.SummedMisses.{sums-as, sums-join}
 use Rattle.driver.specs.Initialisation.{AreFilterTables}
 use Rattle.driver.specs.Resetting.{free_accesses, later_accesses, quiet_accesses, quiet_writes, stop_accesses}

@@ -6,16 +6,16 @@ use Rattle.std.specs.List.{flat_map}
 use Rattle.std.specs.Prelude.{IfSome}
 use Rattle.registers.specs.Bits.{HasBit}
 use Rattle.registers.specs.Places.{rctl_en}
-use Rattle.registers.specs.Eerd.{is_pending}
-use Rattle.registers.specs.Mdic as mdi
-use Rattle.registers.specs.declared.mdic.Ticked.{Ticked}
+use Rattle.eeprom.specs.Eerd.{is_pending}
+use Rattle.mdic_phy.specs.Mdic as mdi
+use Rattle.mdic_phy.specs.declared.mdic.Ticked.{Ticked}
 use Rattle.rx_engine.specs.declared.arrival.Fate.{Fate}
 use Rattle.rx_engine.specs.declared.arrival.Fate.TheVariants.{Off, Illegal, Filtered, Missed, Stored}
 use Rattle.rx_engine.specs.Arriving.{kept}
-use Rattle.rx_engine.specs.FilterLaws.{Passes-same, SameSets, SameSets-sym}
-use Rattle.rx_engine.specs.NumberTables.{HasNumbers, numbers_of_groups}
-use Rattle.rx_engine.specs.Passing.{Passes, ReceiveFilter}
-use Rattle.rx_engine.specs.Registers.{FilterRegisters, filter_of}
+use Rattle.rx_filter.specs.Laws.{Passes-same, SameSets, SameSets-sym}
+use Rattle.rx_filter.specs.NumberTables.{HasNumbers, numbers_of_groups}
+use Rattle.rx_filter.specs.Passing.{Passes, ReceiveFilter}
+use Rattle.rx_filter.specs.Registers.{FilterRegisters, filter_of}
 use Rattle.adapter.specs.Receiving.{IsFate, after_arrive, room}
 use Rattle.adapter.specs.Registers.{left_by_read, left_by_write, read_of, write_of}
 use Rattle.adapter.specs.State.{AdapterState}
@@ -23,23 +23,23 @@ use Rattle.adapter.specs.Steps.{Answers, after_phy_told, ticked}
 use Rattle.adapter.specs.Table.{register_at}
 use Rattle.adapter.specs.TableLaws.{register_at-mta}
 use Rattle.adapter.specs.World.{World, world_after_write}
-use Rattle.adapter.specs.declared.offsets.TheConstants.{RDT, TDT}
-use Rattle.adapter.specs.declared.register.Register.{Register}
-use Rattle.adapter.specs.declared.register.Register.TheVariants.{Icr, Ims, Mta, Receive, Tctl, Transmit}
-use Rattle.adapter.specs.declared.register.RingRegister.{RingRegister}
-use Rattle.adapter.specs.declared.register.RingRegister.TheVariants.{Tail}
-use Rattle.adapter.specs.declared.step.StepKind.{StepKind}
-use Rattle.adapter.specs.declared.step.StepKind.TheVariants.{EepromTick, PhyTick, RxData, RxDone, TxPut, TxTake}
+use Rattle.adapter.specs.model_types.offsets.TheConstants.{RDT, TDT}
+use Rattle.adapter.specs.model_types.register.Register.{Register}
+use Rattle.adapter.specs.model_types.register.Register.TheVariants.{Icr, Ims, Mta, Receive, Tctl, Transmit}
+use Rattle.adapter.specs.model_types.register.RingRegister.{RingRegister}
+use Rattle.adapter.specs.model_types.register.RingRegister.TheVariants.{Tail}
+use Rattle.adapter.specs.model_types.step.StepKind.{StepKind}
+use Rattle.adapter.specs.model_types.step.StepKind.TheVariants.{EepromTick, PhyTick, RxData, RxDone, TxPut, TxTake}
 use Rattle.adapter.specs.Outcomes.{FrameOutcome}
-use Rattle.adapter.specs.declared.outcome.Outcome.TheVariants as outcome
-use Rattle.bus.proofs.Accesses.{at_offset}
-use Rattle.bus.proofs.Lists.{all-head, all-left, all-right}
-use Rattle.bus.specs.StepsAndArrivals.{world_after_step}
-use Rattle.bus.specs.Trails.{Occurs, Trail, past_of, past_of_event, world_after}
-use Rattle.bus.specs.declared.event.Access.{Access}
-use Rattle.bus.specs.declared.event.Access.TheVariants.{Loads, Reads, Stores, Writes}
-use Rattle.bus.specs.declared.event.Event.{Event}
-use Rattle.bus.specs.declared.event.Event.TheVariants.{Accesses, Arrives, Steps}
+use Rattle.adapter.specs.model_types.outcome.Outcome.TheVariants as outcome
+use Rattle.adapter.proofs.Accesses.{at_offset}
+use Rattle.adapter.proofs.Lists.{all-head, all-left, all-right}
+use Rattle.adapter.specs.StepsAndArrivals.{world_after_step}
+use Rattle.adapter.specs.Trails.{Occurs, Trail, past_of, past_of_event, world_after}
+use Rattle.adapter.specs.bus_types.event.Access.{Access}
+use Rattle.adapter.specs.bus_types.event.Access.TheVariants.{Loads, Reads, Stores, Writes}
+use Rattle.adapter.specs.bus_types.event.Event.{Event}
+use Rattle.adapter.specs.bus_types.event.Event.TheVariants.{Accesses, Arrives, Steps}
 use Rattle.stations.specs.Stations.{world_at}
 use Rattle.stations.proofs.HostTrails.{trail-of}
 use Rattle.stations.specs.AtomicRuns.{events_at}

@@ -7,7 +7,7 @@ use Rattle.std.proofs.lemmas.Bool.Decides.{eqb_tells}
 use Rattle.std.proofs.lemmas.List.{length-map}
 use Rattle.std.proofs.lemmas.List.Elements.{filter-append}
 use Rattle.std.proofs.lemmas.List.Sums.{length-filter, sum_by-cons}
-use Rattle.rx_engine.specs.Addresses.{ether_type}
+use Rattle.rx_filter.specs.Addresses.{ether_type}
 use Rattle.rx_engine.specs.Pieces.{Piece, frames_from}
 use Rattle.rx_engine.specs.Pieces.Piece.{Last, Part}
 use Rattle.adapter.specs.HostFrames.{frames_held}

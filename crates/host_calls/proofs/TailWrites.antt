@@ -7,17 +7,17 @@ use Rattle.adapter.specs.Outcomes.{FrameOutcome}
 use Rattle.adapter.specs.Rings.{ring_kept}
 use Rattle.adapter.specs.Table.{register_at}
 use Rattle.adapter.specs.TableLaws.{register_at-there}
-use Rattle.adapter.specs.declared.outcome.Outcome.TheVariants.{Done, Moved, Part, Put, Ticked, Took}
-use Rattle.adapter.specs.declared.register.Register.{Register}
-use Rattle.adapter.specs.declared.register.Register.TheVariants.{Ctrl, Eerd, Rctl, Receive, Tctl, Transmit}
-use Rattle.adapter.specs.declared.register.RingRegister.TheVariants.{Tail}
-use Rattle.adapter.specs.declared.step.StepKind.{StepKind}
-use Rattle.adapter.specs.declared.step.StepKind.TheVariants.{EepromTick, PhyTick}
-use Rattle.bus.proofs.Lists.{all-head, all-left, all-right}
-use Rattle.bus.specs.Trails.{past_of, past_of_event}
-use Rattle.bus.specs.declared.event.Access.TheVariants.{Loads, Reads, Stores, Writes}
-use Rattle.bus.specs.declared.event.Event.{Event}
-use Rattle.bus.specs.declared.event.Event.TheVariants.{Accesses, Arrives, Steps}
+use Rattle.adapter.specs.model_types.outcome.Outcome.TheVariants.{Done, Moved, Part, Put, Ticked, Took}
+use Rattle.adapter.specs.model_types.register.Register.{Register}
+use Rattle.adapter.specs.model_types.register.Register.TheVariants.{Ctrl, Eerd, Rctl, Receive, Tctl, Transmit}
+use Rattle.adapter.specs.model_types.register.RingRegister.TheVariants.{Tail}
+use Rattle.adapter.specs.model_types.step.StepKind.{StepKind}
+use Rattle.adapter.specs.model_types.step.StepKind.TheVariants.{EepromTick, PhyTick}
+use Rattle.adapter.proofs.Lists.{all-head, all-left, all-right}
+use Rattle.adapter.specs.Trails.{past_of, past_of_event}
+use Rattle.adapter.specs.bus_types.event.Access.TheVariants.{Loads, Reads, Stores, Writes}
+use Rattle.adapter.specs.bus_types.event.Event.{Event}
+use Rattle.adapter.specs.bus_types.event.Event.TheVariants.{Accesses, Arrives, Steps}
 use Rattle.host_calls.specs.AnswersLaws.{ReceiveTailWritesAreCounted, SidesStayEnabled, TransmitTailWritesAreCounted}
 use Rattle.host_calls.specs.CountedHosts.{IsNotControl, LeavesEnabled}
 use Rattle.host_calls.specs.Counts.{HostCounts, after_outcome, counts_after_write, counts_after}

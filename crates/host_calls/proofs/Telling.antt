@@ -3,9 +3,9 @@ use Rattle.std.proofs.Common.{◌≡◌, ◌++◌, ◌∷◌, [], false, not, �
 use Rattle.std.proofs.Common.{append_assoc}
 use Rattle.std.proofs.lemmas.List.{append-nil, map-append}
 use Rattle.std.proofs.lemmas.List.Elements.{filter-append}
-use Rattle.bus.specs.TickGroups.{behind_group, group_of, played_in, waiting_after, without_go}
-use Rattle.bus.specs.declared.event.Access.{Access}
-use Rattle.bus.specs.declared.event.Event.TheVariants.{Accesses, Arrives, Steps}
+use Rattle.adapter.specs.TickGroups.{behind_group, group_of, played_in, waiting_after, without_go}
+use Rattle.adapter.specs.bus_types.event.Access.{Access}
+use Rattle.adapter.specs.bus_types.event.Event.TheVariants.{Accesses, Arrives, Steps}
 use Rattle.stations.specs.AtomicSteps.{At, AtomicStep, Idles, PlaysTick, after_atomic, step_outcome, outcome_of_event, tick_of}
 use Rattle.stations.specs.Stations.{StationState}
 use Rattle.stations.specs.declared.outcomes.Numbered.{Numbered}

@@ -9,18 +9,18 @@ use Rattle.rx_engine.specs.declared.arrival.Fate.{Fate}
 use Rattle.tx_engine.specs.Transmitter.{Queued}
 use Rattle.adapter.specs.State.{AdapterState}
 use Rattle.adapter.specs.Transmitting.{IsOldest, PutAnswers}
-use Rattle.adapter.specs.declared.step.StepKind.{StepKind}
-use Rattle.adapter.specs.declared.step.StepKind.TheVariants.{TxTake, TxPut, RxData, RxDone, EepromTick, PhyTick}
+use Rattle.adapter.specs.model_types.step.StepKind.{StepKind}
+use Rattle.adapter.specs.model_types.step.StepKind.TheVariants.{TxTake, TxPut, RxData, RxDone, EepromTick, PhyTick}
 use Rattle.adapter.specs.Outcomes.{FrameOutcome}
-use Rattle.adapter.specs.declared.outcome.Outcome.TheVariants.{Delivered, Fault, Nothing, Put, WireFull}
-use Rattle.bus.proofs.Lists.{all-head, all-left, all-right}
-use Rattle.bus.proofs.TrailFaults.{faults_stay, running_engines_met_no_fault}
-use Rattle.bus.specs.Accesses.{IsNoReset}
-use Rattle.bus.specs.Pasts.{Past}
-use Rattle.bus.specs.TrailFaults.{EnginesRun, IsNoFault, StaysStopped}
-use Rattle.bus.specs.declared.event.Access.{Access}
-use Rattle.bus.specs.declared.event.Event.{Event}
-use Rattle.bus.specs.declared.event.Event.TheVariants.{Accesses, Arrives, Steps}
+use Rattle.adapter.specs.model_types.outcome.Outcome.TheVariants.{Delivered, Fault, Nothing, Put, WireFull}
+use Rattle.adapter.proofs.Lists.{all-head, all-left, all-right}
+use Rattle.adapter.proofs.TrailFaults.{faults_stay, running_engines_met_no_fault}
+use Rattle.adapter.specs.Accesses.{IsNoReset}
+use Rattle.adapter.specs.Pasts.{Past}
+use Rattle.adapter.specs.TrailFaults.{EnginesRun, IsNoFault, StaysStopped}
+use Rattle.adapter.specs.bus_types.event.Access.{Access}
+use Rattle.adapter.specs.bus_types.event.Event.{Event}
+use Rattle.adapter.specs.bus_types.event.Event.TheVariants.{Accesses, Arrives, Steps}
 use Rattle.stations.specs.AtomicSteps.{At, AtomicStep, CanHappen, Idles, OccursAt, after_atomic, step_outcome, tick_of}
 use Rattle.stations.specs.Stations.{StationState, wire_at, wire_of, world_at, world_of}
 use Rattle.stations.specs.declared.tick.Tick.TheVariants.{Deliver, Go, Step}

@@ -7,9 +7,9 @@ use Rattle.std.proofs.lemmas.Grind.{flat_map-append}
 use Rattle.std.proofs.lemmas.List.{append-nil}
 use Rattle.std.specs.List.{flat_map}
 use Rattle.adapter.specs.World.{World}
-use Rattle.bus.specs.Trails.{Occurs, past_of_event}
-use Rattle.bus.specs.declared.event.Event.{Event}
-use Rattle.bus.specs.declared.event.Event.TheVariants.{Accesses, Arrives, Steps}
+use Rattle.adapter.specs.Trails.{Occurs, past_of_event}
+use Rattle.adapter.specs.bus_types.event.Event.{Event}
+use Rattle.adapter.specs.bus_types.event.Event.TheVariants.{Accesses, Arrives, Steps}
 use Rattle.stations.proofs.HostTrails.{at-place, part-here, stands}
 use Rattle.stations.specs.AtomicSteps.{At, AtomicStep, CanHappen, Idles, OccursAt, SuitsWire, after_atomic, outcome_of_event}
 use Rattle.stations.specs.Stations.{StationState, backlog_after, backlog_at, backlog_of, each_after, station_after}

@@ -1,16 +1,16 @@
 -- Laws of the outcomes of ticks, of the counts of a host, and of the slots that a driver offers (our choice).
 use Rattle.std.specs.Prelude.{◌≡◌, ◌≢◌, ◌<◌, ◌≤◌, ◌↔◌, ◌+◌, ◌%◌, ◌++◌, ◌∷◌, ℕ, None, List, All, slice_get}
-use Rattle.adapter.specs.declared.offsets.TheConstants.{RDT, TDT}
-use Rattle.bus.specs.Accesses.{IsNoReset}
-use Rattle.bus.specs.TrailFaults.{EnginesRun}
-use Rattle.bus.specs.Trails.{past_of}
-use Rattle.bus.specs.declared.event.Access.{Access}
-use Rattle.bus.specs.declared.event.Access.TheVariants.{Writes}
-use Rattle.bus.specs.declared.event.Event.{Event}
-use Rattle.bus.specs.declared.event.Event.TheVariants.{Accesses}
+use Rattle.adapter.specs.model_types.offsets.TheConstants.{RDT, TDT}
+use Rattle.adapter.specs.Accesses.{IsNoReset}
+use Rattle.adapter.specs.TrailFaults.{EnginesRun}
+use Rattle.adapter.specs.Trails.{past_of}
+use Rattle.adapter.specs.bus_types.event.Access.{Access}
+use Rattle.adapter.specs.bus_types.event.Access.TheVariants.{Writes}
+use Rattle.adapter.specs.bus_types.event.Event.{Event}
+use Rattle.adapter.specs.bus_types.event.Event.TheVariants.{Accesses}
 use Rattle.stations.specs.AtomicSteps.{At, AtomicStep, step_outcome, tick_of}
 use Rattle.stations.specs.Stations.{StationState, backlog_at, world_at}
-use Rattle.adapter.specs.declared.outcome.Outcome.TheVariants.{Fault, Nothing}
+use Rattle.adapter.specs.model_types.outcome.Outcome.TheVariants.{Fault, Nothing}
 use Rattle.stations.specs.declared.tick.Tick.TheVariants.{Go}
 use Rattle.stations.specs.AtomicRuns.{LeadsTo, past_at}
 use Rattle.host_calls.specs.CountedHosts.{IsCounted, LeavesEnabled}

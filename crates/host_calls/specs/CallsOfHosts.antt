@@ -1,10 +1,10 @@
 -- A call of a host: its atomic steps, and what the host does in these steps (our choice).
 use Rattle.std.specs.Prelude.{⊤, ◌≡◌, ◌∷◌, [], ℕ, true, List, All, map}
-use Rattle.bus.specs.TickGroups.{without_go}
+use Rattle.adapter.specs.TickGroups.{without_go}
 use Rattle.stations.specs.AtomicSteps.{AtomicStep, IsNoAccess, tick_of}
 use Rattle.stations.specs.Stations.{StationState, world_at}
 use Rattle.stations.specs.AtomicRuns.{LeadsTo, counted_of, is_go, noted_of, past_at, steps_told}
-use Rattle.bus.specs.Calls.{HasNoForgottenWork, IsRefilled}
+use Rattle.adapter.specs.Calls.{HasNoForgottenWork, IsRefilled}
 use Rattle.packet_socket.specs.HostActs.{IsOfDriver, IsOfHost, OnlyLastWrites}
 use Rattle.packet_socket.specs.HostCalls.{Given, HostDid, HostFlowsTo, host_did, in_world}
 use Rattle.host_calls.specs.Happenings.{happened_in, tick_happenings}

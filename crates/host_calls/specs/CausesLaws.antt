@@ -1,10 +1,10 @@
 -- Laws of the value that an interrupt handler reads from ICR, and of the handler's result (13.4.17 "Interrupt Cause Read
 -- Register"; the laws are our choice).
 use Rattle.std.specs.Prelude.{◌≡◌, ◌↔◌, ◌==◌, ◌++◌, ◌∷◌, ℕ, List, filter, map}
-use Rattle.adapter.specs.declared.offsets.TheConstants.{ICR}
-use Rattle.bus.specs.Pasts.{Past}
-use Rattle.bus.specs.declared.event.Access.{Access}
-use Rattle.bus.specs.declared.event.Access.TheVariants.{Reads}
+use Rattle.adapter.specs.model_types.offsets.TheConstants.{ICR}
+use Rattle.adapter.specs.Pasts.{Past}
+use Rattle.adapter.specs.bus_types.event.Access.{Access}
+use Rattle.adapter.specs.bus_types.event.Access.TheVariants.{Reads}
 use Rattle.stations.specs.AtomicSteps.{AtomicStep, step_outcome}
 use Rattle.stations.specs.declared.outcomes.Numbered.{Numbered}
 use Rattle.stations.specs.AtomicRuns.{noted_of}

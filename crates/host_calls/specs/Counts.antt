@@ -8,28 +8,28 @@ use Rattle.registers.specs.Kept.{receive_control_mask, transmit_control_mask}
 use Rattle.registers.specs.Places.{ctrl_rst, rctl_en, tctl_en}
 use Rattle.descriptors.specs.declared.ring.Ring.{Ring}
 use Rattle.descriptors.specs.Ring.{count_of}
-use Rattle.registers.specs.Eerd.{has_start, is_pending}
-use Rattle.registers.specs.declared.phy.Negotiation.{Negotiation}
-use Rattle.registers.specs.declared.phy.Negotiation.TheVariants.{NotStarted, Running, Complete}
-use Rattle.registers.specs.Mdic.{MdicState, phy_after_tick}
-use Rattle.registers.specs.Phy.{PhyState}
+use Rattle.eeprom.specs.Eerd.{has_start, is_pending}
+use Rattle.mdic_phy.specs.declared.phy.Negotiation.{Negotiation}
+use Rattle.mdic_phy.specs.declared.phy.Negotiation.TheVariants.{NotStarted, Running, Complete}
+use Rattle.mdic_phy.specs.Mdic.{MdicState, phy_after_tick}
+use Rattle.mdic_phy.specs.Phy.{PhyState}
 use Rattle.rx_engine.specs.Arriving.{kept}
 use Rattle.rx_engine.specs.Moving.{buffer_bytes}
-use Rattle.adapter.specs.declared.register.Register.{Register}
-use Rattle.adapter.specs.declared.register.Register.TheVariants.{Ctrl, Eerd, Rctl, Tctl, Receive, Transmit}
-use Rattle.adapter.specs.declared.register.RingRegister.{RingRegister}
-use Rattle.adapter.specs.declared.register.RingRegister.TheVariants.{BaseLow, BaseHigh, Length, Head, Tail}
-use Rattle.adapter.specs.declared.step.StepKind.{StepKind}
-use Rattle.adapter.specs.declared.step.StepKind.TheVariants.{EepromTick, PhyTick}
+use Rattle.adapter.specs.model_types.register.Register.{Register}
+use Rattle.adapter.specs.model_types.register.Register.TheVariants.{Ctrl, Eerd, Rctl, Tctl, Receive, Transmit}
+use Rattle.adapter.specs.model_types.register.RingRegister.{RingRegister}
+use Rattle.adapter.specs.model_types.register.RingRegister.TheVariants.{BaseLow, BaseHigh, Length, Head, Tail}
+use Rattle.adapter.specs.model_types.step.StepKind.{StepKind}
+use Rattle.adapter.specs.model_types.step.StepKind.TheVariants.{EepromTick, PhyTick}
 use Rattle.adapter.specs.Rings.{ring_kept, ring_of}
 use Rattle.adapter.specs.State.{AdapterState}
 use Rattle.adapter.specs.Table.{register_at}
-use Rattle.bus.specs.declared.event.Access.{Access}
-use Rattle.bus.specs.declared.event.Access.TheVariants.{Loads, Reads, Stores, Writes}
-use Rattle.bus.specs.declared.event.Event.{Event}
-use Rattle.bus.specs.declared.event.Event.TheVariants.{Accesses, Arrives, Steps}
+use Rattle.adapter.specs.bus_types.event.Access.{Access}
+use Rattle.adapter.specs.bus_types.event.Access.TheVariants.{Loads, Reads, Stores, Writes}
+use Rattle.adapter.specs.bus_types.event.Event.{Event}
+use Rattle.adapter.specs.bus_types.event.Event.TheVariants.{Accesses, Arrives, Steps}
 use Rattle.adapter.specs.Outcomes.{FrameOutcome}
-use Rattle.adapter.specs.declared.outcome.Outcome.TheVariants.{Done, Moved, Part, Put, Ticked, Took}
+use Rattle.adapter.specs.model_types.outcome.Outcome.TheVariants.{Done, Moved, Part, Put, Ticked, Took}
 
 -- The counts of a ring.
 pub record RingCounts : Type 0 where

@@ -3,19 +3,19 @@ use Rattle.std.specs.Prelude.{◌≡◌, ◌⊎◌, ◌<◌, ◌+◌, ◌*◌, �
 use Rattle.std.specs.Prelude.{if◌then◌else◌}
 use Rattle.registers.specs.Bits.{HasBit}
 use Rattle.registers.specs.Places.{rctl_en}
-use Rattle.rx_engine.specs.GroupLists.{Removes}
-use Rattle.rx_engine.specs.NumberTables.{HasNumbers, numbers_of_groups}
-use Rattle.rx_engine.specs.Registers.{FilterRegisters}
-use Rattle.rx_engine.specs.declared.filter.TheConstants.{TABLE_WORDS}
+use Rattle.rx_filter.specs.GroupLists.{Removes}
+use Rattle.rx_filter.specs.NumberTables.{HasNumbers, numbers_of_groups}
+use Rattle.rx_filter.specs.Registers.{FilterRegisters}
+use Rattle.rx_filter.specs.declared.filter.TheConstants.{TABLE_WORDS}
 use Rattle.adapter.specs.State.{AdapterState}
 use Rattle.adapter.specs.World.{World, world_after_write}
-use Rattle.adapter.specs.declared.offsets.TheConstants.{MTA, RDT, REGISTER_BYTES, TDT}
-use Rattle.bus.specs.TickGroups.{played_in, waiting_after, without_go}
-use Rattle.bus.specs.Pasts.{Past}
-use Rattle.bus.specs.Settings.{IsOff, LeavesReceiver, writes_in}
-use Rattle.bus.specs.declared.event.Access.{Access}
-use Rattle.bus.specs.declared.event.Access.TheVariants.{Writes}
-use Rattle.bus.specs.declared.event.Event.TheVariants.{Accesses}
+use Rattle.adapter.specs.model_types.offsets.TheConstants.{MTA, RDT, REGISTER_BYTES, TDT}
+use Rattle.adapter.specs.TickGroups.{played_in, waiting_after, without_go}
+use Rattle.adapter.specs.Pasts.{Past}
+use Rattle.adapter.specs.Settings.{IsOff, LeavesReceiver, writes_in}
+use Rattle.adapter.specs.bus_types.event.Access.{Access}
+use Rattle.adapter.specs.bus_types.event.Access.TheVariants.{Writes}
+use Rattle.adapter.specs.bus_types.event.Event.TheVariants.{Accesses}
 use Rattle.stations.specs.AtomicSteps.{At, AtomicStep, PlaysTick, tick_of}
 use Rattle.stations.specs.Stations.{StationState, backlog_at, wire_at, world_at}
 use Rattle.adapter.specs.Outcomes.{FrameOutcome}

@@ -8,7 +8,7 @@ use Rattle.stations.specs.AtomicSteps.{AtomicStep}
 use Rattle.stations.specs.Stations.{StationState, world_at}
 use Rattle.stations.specs.AtomicRuns.{LeadsTo, events_at}
 use Rattle.host_calls.specs.Happenings.{Moved, happened_in}
-use Rattle.bus.specs.Calls.{driver_in, frames_ended}
+use Rattle.adapter.specs.Calls.{driver_in, frames_ended}
 use Rattle.packet_socket.specs.HostState.{HostState, all_of}
 use Rattle.packet_socket.specs.HostCalls.{Given, host_did}
 use Rattle.host_calls.specs.CallsOfHosts.{GroupsStay, HostRuns}
@@ -70,17 +70,17 @@ pub record StepsOn (steps number : ℕ) (given : List Given) (old new : Connecte
   pub counts : CountsSteps steps number (length given) old new
 
 -- The state of a sink: the frames that it has taken, and the number of further frames for which it has room.
-pub record FrameSinkState : Type 0 where
+pub record OutletState : Type 0 where
   pub frames : List Given
   pub room : ℕ
 
 -- the state of a sink with these frames and this room
-abbrev pub frame_sink : List Given → ℕ → FrameSinkState
-frame_sink frames room = record { frames = frames; room = room }
+abbrev pub outlet : List Given → ℕ → OutletState
+outlet frames room = record { frames = frames; room = room }
 
 -- `steps` consecutive steps of a drain (`on`): the frames that sockets returned were appended to the sink. The room of
 -- the sink decreased by at most the number of these frames.
-pub record StepsInto (steps number : ℕ) (before after : FrameSinkState) (old new : ConnectedHost) : Type 0 where
+pub record StepsInto (steps number : ℕ) (before after : OutletState) (old new : ConnectedHost) : Type 0 where
   pub given : List Given
   pub appended : after.frames ≡ before.frames ++ given
   pub room : before.room ≤ after.room + length given

@@ -11,13 +11,13 @@ use Rattle.dma_memory.specs.Layout.{receive_buffer_bytes}
 use Rattle.adapter.specs.HostFrames.{frames_held, frames_to_send}
 use Rattle.adapter.specs.Slots.{slots_in_work}
 use Rattle.adapter.specs.World.{World}
-use Rattle.adapter.specs.declared.step.StepKind.TheVariants.{RxData, RxDone}
-use Rattle.bus.specs.declared.event.Event.TheVariants.{Accesses, Arrives, Steps}
+use Rattle.adapter.specs.model_types.step.StepKind.TheVariants.{RxData, RxDone}
+use Rattle.adapter.specs.bus_types.event.Event.TheVariants.{Accesses, Arrives, Steps}
 use Rattle.stations.specs.AtomicSteps.{At, AtomicStep, Idles}
 use Rattle.stations.specs.Stations.{StationState, backlog_at, world_at}
 use Rattle.stations.specs.AtomicRuns.{LeadsTo}
 use Rattle.host_calls.specs.Happenings.{Moved, happened_in}
-use Rattle.bus.specs.Calls.{HasNoForgottenWork, IsRefilled, sum_limit}
+use Rattle.adapter.specs.Calls.{HasNoForgottenWork, IsRefilled, sum_limit}
 use Rattle.driver.specs.Growth.{GrowsBy}
 use Rattle.driver.specs.declared.receiver.Received.{Received}
 use Rattle.packet_socket.specs.HostCalls.{Given, HostReady, host_did, given_for, held_for_socket, without_socket}
@@ -50,7 +50,7 @@ count_pieces frames = sum_by (λ (frame : List ℕ). buffers_for (length frame))
 
 -- the number of pieces of these queued frames
 abbrev pub count_queued_pieces : List Received → ℕ
-count_queued_pieces list = sum_by (λ (received : Received). buffers_for received.length) list
+count_queued_pieces list = sum_by (λ (received : Received). buffers_for received.len) list
 
 -- the number of pieces of all frames that a host holds
 abbrev pub count_held : HostState → World → ℕ

@@ -4,12 +4,12 @@ use Rattle.std.specs.Prelude.{⊤, ◌≡◌, ◌≢◌, ◌++◌, ℕ, Bool, tr
 use Rattle.std.specs.List.{Contains, flat_map}
 use Rattle.descriptors.specs.Frames.{IsLegal}
 use Rattle.rx_engine.specs.Arriving.{kept}
-use Rattle.rx_engine.specs.GroupLists.{Removes}
-use Rattle.rx_engine.specs.NumberTables.{numbers_of_groups}
+use Rattle.rx_filter.specs.GroupLists.{Removes}
+use Rattle.rx_filter.specs.NumberTables.{numbers_of_groups}
 use Rattle.rx_engine.specs.declared.arrival.Fate.{Fate}
 use Rattle.rx_engine.specs.declared.arrival.Fate.TheVariants.{Off, Illegal, Filtered, Missed, Stored}
-use Rattle.rx_engine.specs.Passing.{Passes, ReceiveFilter}
-use Rattle.rx_engine.specs.Registers.{FilterRegisters, filter_of}
+use Rattle.rx_filter.specs.Passing.{Passes, ReceiveFilter}
+use Rattle.rx_filter.specs.Registers.{FilterRegisters, filter_of}
 use Rattle.rx_engine.specs.Room.{HasRoomFor, LacksRoomFor}
 use Rattle.host_calls.specs.Happenings.{Disabled, Enabled, GivenUp, Happening, Joined, Left, Moved, Reached, of_host}
 

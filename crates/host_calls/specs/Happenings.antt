@@ -4,11 +4,11 @@ use Rattle.std.specs.Prelude.{◌==◌, ◌&&◌, not, ◌++◌, ℕ, Bool, fals
 use Rattle.std.specs.List.{flat_map}
 use Rattle.rx_engine.specs.Arriving.{kept}
 use Rattle.rx_engine.specs.declared.arrival.Fate.{Fate}
-use Rattle.bus.specs.StepsAndArrivals.{missed_by}
+use Rattle.adapter.specs.StepsAndArrivals.{missed_by}
 use Rattle.stations.specs.AtomicSteps.{At, AtomicStep, Idles, outcome_of_event}
 use Rattle.stations.specs.declared.outcomes.Numbered.{Numbered}
 use Rattle.adapter.specs.Outcomes.{FrameOutcome}
-use Rattle.adapter.specs.declared.outcome.Outcome.TheVariants as outcome
+use Rattle.adapter.specs.model_types.outcome.Outcome.TheVariants as outcome
 use Rattle.stations.specs.declared.tick.Tick.{Tick}
 use Rattle.stations.specs.declared.tick.Tick.TheVariants.{Deliver, Go, Step}
 

@@ -3,15 +3,15 @@
 use Rattle.std.specs.Prelude.{⊤, ◌≡◌, ◌≢◌, ◌⊎◌, ◌++◌, ◌∷◌, [], ℕ, Bool, true, false, List, All}
 use Rattle.registers.specs.Bits.{Meet}
 use Rattle.rx_engine.specs.declared.arrival.Fate.TheVariants.{Missed}
-use Rattle.adapter.specs.declared.offsets.TheConstants.{ICR}
-use Rattle.bus.specs.declared.event.Access.TheVariants.{Reads}
-use Rattle.bus.specs.declared.event.Event.{Event}
-use Rattle.bus.specs.declared.event.Event.TheVariants.{Accesses}
+use Rattle.adapter.specs.model_types.offsets.TheConstants.{ICR}
+use Rattle.adapter.specs.bus_types.event.Access.TheVariants.{Reads}
+use Rattle.adapter.specs.bus_types.event.Event.{Event}
+use Rattle.adapter.specs.bus_types.event.Event.TheVariants.{Accesses}
 use Rattle.stations.specs.AtomicSteps.{At, AtomicStep, outcome_of_event}
 use Rattle.adapter.specs.Outcomes.{FrameOutcome}
 use Rattle.adapter.specs.Receiving.{is_ending}
 use Rattle.adapter.specs.State.{AdapterState}
-use Rattle.adapter.specs.declared.outcome.Outcome.TheVariants.{Delivered, Done, Moved, Nothing, Part, Put}
+use Rattle.adapter.specs.model_types.outcome.Outcome.TheVariants.{Delivered, Done, Moved, Nothing, Part, Put}
 use Rattle.stations.specs.AtomicRuns.{IsTick, events_at}
 use Rattle.bring_up.specs.WrittenRegisters.{handled_causes}
 use Rattle.driver.specs.declared.interrupt.Handled.{Handled}

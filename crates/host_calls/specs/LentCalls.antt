@@ -1,6 +1,6 @@
 -- The ghost members of a lent bus, for contracts of calls over this bus.
 use Rattle.std.specs.Prelude.{⊤}
-use Rattle.bus.specs.declared.bus.Bus.{Ghosts}
+use Rattle.adapter.specs.bus_types.bus.Bus.{Ghosts}
 use Rattle.stations.specs.LentBuses.{HappenedLent, SameLent, bytes_here, world_here}
 use Rattle.stations.specs.declared.lent_bus.LentBus.{LentBus}
 use Rattle.stations.specs.declared.observer.Observer.{Ghosts as OfObserver}

@@ -1,7 +1,7 @@
 -- The state of a network: its hosts and their stations; its k-th host (our choice).
 use Rattle.std.specs.Prelude.{◌≡◌, [], ℕ, false, List, None, Option, Some, slice_get, slice_set}
-use Rattle.bus.specs.Beginnings.{new_driver}
-use Rattle.bus.specs.DriverState.{DriverState}
+use Rattle.adapter.specs.Beginnings.{new_driver}
+use Rattle.adapter.specs.DriverState.{DriverState}
 use Rattle.packet_socket.specs.HostState.{HostState, new_host}
 use Rattle.stations.specs.Stations.{StationState}
 use Rattle.host_calls.specs.ConnectedHosts.{ConnectedHost, connected}

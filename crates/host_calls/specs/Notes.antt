@@ -4,8 +4,8 @@ use Rattle.std.specs.Prelude.{◌≡◌, ◌≤◌, ◌+◌, ◌++◌, ◌&&◌,
 use Rattle.std.specs.List.{flat_map}
 use Rattle.rx_engine.specs.declared.arrival.Fate.TheVariants.{Stored}
 use Rattle.adapter.specs.Outcomes.{FrameOutcome}
-use Rattle.adapter.specs.declared.outcome.Outcome.TheVariants.{Delivered, Put}
-use Rattle.bus.specs.LivelyBuses.{most_accesses}
+use Rattle.adapter.specs.model_types.outcome.Outcome.TheVariants.{Delivered, Put}
+use Rattle.adapter.specs.LivelyBuses.{most_accesses}
 use Rattle.stations.specs.declared.tick.Tick.{Tick}
 use Rattle.stations.specs.declared.tick.Tick.TheVariants.{Deliver, Go, Step}
 use Rattle.stations.specs.ToldTicks.{TickTold}

@@ -1,14 +1,14 @@
 -- What an adapter receives in an interval, and the accesses that don't change how it receives (our choice).
 use Rattle.std.specs.Prelude.{⊤, ◌≡◌, ℕ, List, IfSome}
-use Rattle.rx_engine.specs.Registers.{FilterRegisters}
+use Rattle.rx_filter.specs.Registers.{FilterRegisters}
 use Rattle.adapter.specs.Receiving.{room}
 use Rattle.adapter.specs.State.{AdapterState}
 use Rattle.adapter.specs.Table.{register_at}
-use Rattle.adapter.specs.declared.register.Register.{Register}
-use Rattle.adapter.specs.declared.register.Register.TheVariants.{Ims, Receive, Tctl, Transmit}
-use Rattle.adapter.specs.declared.register.RingRegister.TheVariants.{Tail}
-use Rattle.bus.specs.declared.event.Access.{Access}
-use Rattle.bus.specs.declared.event.Access.TheVariants.{Loads, Reads, Stores, Writes}
+use Rattle.adapter.specs.model_types.register.Register.{Register}
+use Rattle.adapter.specs.model_types.register.Register.TheVariants.{Ims, Receive, Tctl, Transmit}
+use Rattle.adapter.specs.model_types.register.RingRegister.TheVariants.{Tail}
+use Rattle.adapter.specs.bus_types.event.Access.{Access}
+use Rattle.adapter.specs.bus_types.event.Access.TheVariants.{Loads, Reads, Stores, Writes}
 use Rattle.host_calls.specs.Fates.{AreRightFates, KeepsGroups, Mark, reception}
 
 -- The register is RDT, TCTL, IMS, or one of the transmit ring.

@@ -4,12 +4,12 @@
 use Rattle.std.specs.Prelude.{◌≡◌, ◌++◌, ◌∷◌, [], ℕ, List}
 use Rattle.registers.specs.Places.{alone, ctrl_rst}
 use Rattle.dma_memory.specs.Layout.{Counts}
-use Rattle.adapter.specs.declared.offsets.TheConstants.{CTRL, ICR, IMC, MPC, RCTL}
-use Rattle.bus.specs.declared.event.Access.TheVariants.{Reads, Writes}
-use Rattle.bus.specs.declared.event.Event.TheVariants.{Accesses}
+use Rattle.adapter.specs.model_types.offsets.TheConstants.{CTRL, ICR, IMC, MPC, RCTL}
+use Rattle.adapter.specs.bus_types.event.Access.TheVariants.{Reads, Writes}
+use Rattle.adapter.specs.bus_types.event.Event.TheVariants.{Accesses}
 use Rattle.stations.specs.AtomicRuns.{past_at}
 use Rattle.stations.specs.AtomicSteps.{At, AtomicStep}
-use Rattle.bus.specs.DriverState.{DriverSetup}
+use Rattle.adapter.specs.DriverState.{DriverSetup}
 use Rattle.bring_up.specs.RingRegisters.{receive_control}
 use Rattle.driver.specs.Resetting.{free_accesses, later_accesses, quiet_writes}
 

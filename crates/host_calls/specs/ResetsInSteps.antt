@@ -3,16 +3,16 @@
 use Rattle.std.specs.Prelude.{◌≡◌, ◌++◌, [], ℕ, true, List}
 use Rattle.adapter.specs.HostFrames.{frames_held, frames_to_send}
 use Rattle.adapter.specs.World.{World}
-use Rattle.bus.specs.AdaptersAtRest.{NoFrame}
-use Rattle.bus.specs.Link.{HasLink}
+use Rattle.adapter.specs.AdaptersAtRest.{NoFrame}
+use Rattle.adapter.specs.Link.{HasLink}
 use Rattle.bring_up.specs.ConfiguredAdapters.{HasSetup}
 use Rattle.bring_up.specs.Groups.{HasTable}
 use Rattle.stations.specs.AtomicRuns.{LeadsTo, counted_of, past_at}
 use Rattle.stations.specs.AtomicSteps.{AtomicStep, after_atomic}
 use Rattle.stations.specs.Stations.{StationState, world_at}
-use Rattle.bus.specs.Calls.{HasNoForgottenWork, IsRefilled, SumsMisses, driver_in, missed_added}
-use Rattle.bus.specs.DriverState.{DriverSetup, with_owners}
-use Rattle.bus.specs.Resets.{reset_driver, reset_world}
+use Rattle.adapter.specs.Calls.{HasNoForgottenWork, IsRefilled, SumsMisses, driver_in, missed_added}
+use Rattle.adapter.specs.DriverState.{DriverSetup, with_owners}
+use Rattle.adapter.specs.Resets.{reset_driver, reset_world}
 use Rattle.driver.specs.Initialisation.{AreFilterTables}
 use Rattle.packet_socket.specs.HostCalls.{HostGoesTo, HostReady, did_nothing, in_world, waiting_frames}
 use Rattle.packet_socket.specs.HostState.{HostState}

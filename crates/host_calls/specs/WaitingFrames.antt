@@ -1,7 +1,7 @@
 -- The frames that wait at the ends of wires, before and after atomic steps (our choice).
 use Rattle.std.specs.Prelude.{◌≡◌, ◌≢◌, ◌≤◌, ◌==◌, ◌++◌, ℕ, Bool, true, false, Option, Some, None, List, [], ◌∷◌, length}
 use Rattle.std.specs.Prelude.{if◌then◌else◌}
-use Rattle.bus.specs.Trails.{past_of_event}
+use Rattle.adapter.specs.Trails.{past_of_event}
 use Rattle.stations.specs.AtomicSteps.{At, AtomicStep, Idles}
 use Rattle.stations.specs.Ends.{end_frames}
 use Rattle.stations.specs.Stations.{StationState, backlog_after, backlog_at, wire_at}

@@ -7,9 +7,9 @@ ghost use Rattle.packet_socket.specs.HostState.{all_of, queue_at};
 ghost use Rattle.stations.specs.Stations.{world_at};
 ghost use Rattle.host_calls.specs.DrainedHosts.{CanBeDrained, DrainsInto, HoldsNothing, count_frames};
 ghost use Rattle.host_calls.specs.Networks.{OnlyHostChanges, connected_at, nth_host};
-ghost use Rattle.host_calls.specs.DrainSteps.{StepsInto, StepsOn, frame_sink, steps_of};
+ghost use Rattle.host_calls.specs.DrainSteps.{StepsInto, StepsOn, outlet, steps_of};
 
-use crate::FrameSink;
+use crate::Outlet;
 use crate::network::Network;
 use adapter::{Outcome, StepKind};
 use descriptors::Frame;
@@ -42,7 +42,7 @@ impl Network {
     /// back the descriptor of the piece. If the interrupt line is asserted, the host handles an interrupt. If a frame
     /// is queued for a socket, the first such socket returns its oldest frame. If the receive packet buffer contains a
     /// frame, the adapter moves the next piece of the oldest frame to memory.
-    pub fn drain<S: FrameSink>(&mut self, number: usize, sink: &mut S) -> u64
+    pub fn drain<S: Outlet>(&mut self, number: usize, sink: &mut S) -> u64
         requires there { number < length self.old.hosts }
         requires stands { CanBeDrained (nth_host self.old number) (world_at self.old.stations number) }
         requires room { (nth_host self.old number).driver.layout.buffers + MOST_FRAMES ≤ S.room_left sink.old }
@@ -66,14 +66,14 @@ impl Network {
     /// this (`room`) may assume the invariant of the host's adapter. `adapter` states this invariant for callers.
     ///
     /// Only this host and its station change, and no end of a wire changes.
-    fn step<S: FrameSink>(&mut self, number: usize, bytes: &mut [u8; 1518], sink: &mut S) -> bool
+    fn step<S: Outlet>(&mut self, number: usize, bytes: &mut [u8; 1518], sink: &mut S) -> bool
         requires there { number < length self.old.hosts }
         requires stands { CanBeDrained (nth_host self.old number) (world_at self.old.stations number) }
         requires room { IsAdapter (world_at self.old.stations number).adapter
             → count_frames (nth_host self.old number) (world_at self.old.stations number) ≤ S.room_left sink.old }
         ensures adapter { IsAdapter (world_at self.old.stations number).adapter }
-        ensures steps { StepsInto (steps_of result) number (frame_sink (S.frames sink.old) (S.room_left sink.old))
-            (frame_sink (S.frames sink.new) (S.room_left sink.new))
+        ensures steps { StepsInto (steps_of result) number (outlet (S.frames sink.old) (S.room_left sink.old))
+            (outlet (S.frames sink.new) (S.room_left sink.new))
             (connected_at self.old number) (connected_at self.new number) }
         ensures ends { result ≡ false → HoldsNothing (nth_host self.new number) (world_at self.new.stations number) }
         ensures others { OnlyHostChanges number self.old self.new }
@@ -127,7 +127,7 @@ impl Network {
     /// Takes the third kind of step: a socket returns its oldest frame, without ticks, and the frame is passed to the
     /// sink. The frame is first copied to `bytes`. The socket must exist (`known`), and a frame must be queued for it
     /// (`waits`). No piece may be in progress (`free`), and the sink must have room for the frame.
-    fn give<S: FrameSink>(
+    fn give<S: Outlet>(
         &mut self,
         number: usize,
         socket: usize,
@@ -140,8 +140,8 @@ impl Network {
         requires known { socket < length (nth_host self.old number).kinds }
         requires waits { queue_at (nth_host self.old number).queues socket ≢ [] }
         requires room { 0 < S.room_left sink.old }
-        ensures steps { StepsInto 1 number (frame_sink (S.frames sink.old) (S.room_left sink.old))
-            (frame_sink (S.frames sink.new) (S.room_left sink.new))
+        ensures steps { StepsInto 1 number (outlet (S.frames sink.old) (S.room_left sink.old))
+            (outlet (S.frames sink.new) (S.room_left sink.new))
             (connected_at self.old number) (connected_at self.new number) }
         ensures others { OnlyHostChanges number self.old self.new }
     {

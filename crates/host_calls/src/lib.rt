@@ -5,15 +5,15 @@
 mod calls;
 mod causes_law;
 mod draining;
-mod frame_sink;
 mod network;
 mod noting;
+mod outlet;
 mod resetting;
 
 pub use calls::Called;
 pub use causes_law::answers_tell_causes;
-pub use frame_sink::FrameSink;
 pub use network::Network;
+pub use outlet::Outlet;
 pub use resetting::{GivenUp, WasReset};
 
 mod answers_law;

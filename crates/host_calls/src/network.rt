@@ -2,14 +2,14 @@
 
 ghost use Rattle.std.specs.Prelude.{◌≡◌, ◌≤◌, ◌<◌, ◌↔◌, ◌++◌, ◌∷◌, [], length, vec_capacity};
 ghost use Rattle.std.specs.Prelude.{IfOk, IfSome, IsNone, OnErr};
-ghost use Rattle.bus.specs.TickGroups.{without_go};
+ghost use Rattle.adapter.specs.TickGroups.{without_go};
 ghost use Rattle.stations.specs.AtomicRuns.{is_go};
 ghost use Rattle.stations.specs.AtomicSteps.{PlaysNoted, watched};
 ghost use Rattle.stations.specs.PlayedTicks.{PlaysTicks};
 ghost use Rattle.host_calls.specs.Networks.{nth_host, NetworkState};
 ghost use Rattle.host_calls.specs.NetworkView.{HasStations, network_in};
 
-use bus::Machine;
+use adapter::Machine;
 use packet_socket::Host;
 use stations::{Observer, Stations, Tick};
 use std::alloc::{AllocError, Global};

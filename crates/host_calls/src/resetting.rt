@@ -77,7 +77,7 @@ impl Network {
         let mut holding = Vec::new(alloc);
         holding.reserve(most)?;
         self.stations
-            .pending(number, host.oldest_receive(), &mut sending, &mut holding);
+            .pending(number, host.oldest(), &mut sending, &mut holding);
         Ok(GivenUp { sending, holding })
     }
 

@@ -7,7 +7,7 @@ use Rattle.packet_socket.specs.declared.call.HostAnswer.TheVariants.{Received as
 use Rattle.network_plan.specs.EventCalls.{Alone, ByCall, ByReset, EventKind, in_event}
 use Rattle.network_plan.specs.declared.event.Event.{Event}
 use Rattle.network_plan.specs.declared.reply.Answer.{Answer}
-use Rattle.network_plan.specs.declared.reply.Answer.TheVariants.{Interrupted, Joined, Left, NoHost, Received, Reset, Sent, NoCall}
+use Rattle.network_plan.specs.declared.reply.Answer.TheVariants.{Interrupted, Joined, Left, NoHost, Received, Reset, Sent, Ticked}
 
 -- an answer with the bytes of its frame
 abbrev pub FrameAnswer : Type 0
@@ -22,7 +22,7 @@ answer_with frame (Interrupted handled) = Interrupted handled
 answer_with frame (Joined joined) = Joined joined
 answer_with frame (Left left) = Left left
 answer_with frame (Reset sending holding on_after) = Reset sending holding on_after
-answer_with frame NoCall = NoCall
+answer_with frame Ticked = Ticked
 answer_with frame NoHost = NoHost
 
 -- the answer to an event, by the answer of its call

@@ -3,9 +3,9 @@ use Rattle.std.specs.Prelude.{◌≡◌, ◌≢◌, ◌≤◌, ◌-◌, ◌^◌,
 use Rattle.std.specs.Prelude.{length, nat_le}
 use Rattle.std.specs.Prelude.{string_bytes, string_eq}
 use Rattle.std.specs.declared.alloc.Global.{Global}
-use Rattle.registers.specs.Image.{address_bytes}
-use Rattle.registers.specs.declared.phy.Link.TheVariants.{After}
-use Rattle.rx_engine.specs.Addresses.{IsIndividual}
+use Rattle.eeprom.specs.Image.{address_bytes}
+use Rattle.mdic_phy.specs.declared.phy.Link.TheVariants.{After}
+use Rattle.rx_filter.specs.Addresses.{IsIndividual}
 use Rattle.bring_up.specs.Configuration.{IsValidIn}
 use Rattle.network_plan.specs.declared.plan.HostPlan.{HostPlan}
 use Rattle.network_plan.specs.declared.plan_error.PlanError.{PlanError}

@@ -7,9 +7,10 @@ ghost use Rattle.network_plan.specs.Plans.{hosts_on};
 
 use crate::plan_error::PlanError;
 use arrayvec::ArrayVec;
-use bring_up::Config;
+use driver::Config;
+use eeprom::Image;
+use mdic_phy::Link;
 use packet_socket::SocketKind;
-use registers::{Image, Link};
 
 /// The maximum number of bytes of a name (our choice).
 pub const MOST_NAME_BYTES: usize = 16;

@@ -1,6 +1,6 @@
 //! The reasons why no network was made by a plan.
 
-use bring_up::InitError;
+use driver::InitError;
 use thiserror::Error;
 
 /// Why no network was made by a plan. The first of `Name`, `Ends`, `Hosts`, `Address` and `Config` that applies is

@@ -1,8 +1,7 @@
 // The replies to events.
 
-use bring_up::GroupError;
 use descriptors::Frame;
-use driver::{Handled, SendError};
+use driver::{GroupError, Handled, SendError};
 use packet_socket::RecvError;
 use stations::{HeapFrame, Outcomes};
 use thiserror::Error;
@@ -34,7 +33,7 @@ pub enum Answer<F> {
         on_after: u64,
     },
     /// The event was a tick outside a call. The tick was played; a `Go` did nothing.
-    NoCall,
+    Ticked,
     /// There is no such host. The ticks of the call or the reset were played.
     NoHost,
 }
@@ -66,7 +65,7 @@ impl<F> Answer<F> {
                 holding,
                 on_after,
             },
-            Answer::NoCall => Answer::NoCall,
+            Answer::Ticked => Answer::Ticked,
             Answer::NoHost => Answer::NoHost,
         }
     }

@@ -6,7 +6,7 @@ use Rattle.std.proofs.lemmas.List.{length-map}
 use Rattle.std.proofs.lemmas.List.Filters.{length-filter_both}
 use Rattle.std.proofs.lemmas.List.Recursion.{is_count_by}
 use Rattle.std.proofs.lemmas.List.Sums.{length-filter}
-use Rattle.bus.specs.DriverState.{DriverState}
+use Rattle.adapter.specs.DriverState.{DriverState}
 use Rattle.driver.proofs.ShownRuns.{runs-few}
 use Rattle.driver.specs.HandlerSteps.{IfHandled, IsRun, RunOfSlots, ServesReceiver, bad_runs, run_buffers, whole_frames}
 use Rattle.driver.specs.Growth.{GrowsBy}

@@ -10,7 +10,7 @@ use Rattle.packet_socket.specs.HostState.{HostState}
 use Rattle.stations.specs.Stations.{backlog_at, world_at}
 use Rattle.wire.specs.DrainedNetworks.{NetworkDrains}
 use Rattle.wire.specs.Equations.{missed_count}
-use Rattle.network_plants.specs.Alike.{DrainsAreAlike, FrameSinks}
+use Rattle.network_plants.specs.Alike.{DrainsAreAlike, Outlets}
 
 -- the frames that a host holds for a socket; no frame if the host doesn't exist
 held-in : NetworkState → (host socket : ℕ) → Option HostState → List (List ℕ)
@@ -77,7 +77,7 @@ same-before : (old : NetworkState) (host : ℕ) (x y : HostState) → slice_get 
     → x ≡ y
 same-before old host x y is is' = let both : Some x ≡ Some y = sym is ∙ is' in cc
 
-pub drains-alike : (old : NetworkState) (host m n : ℕ) (a b : FrameSinks) (one other : NetworkState)
+pub drains-alike : (old : NetworkState) (host m n : ℕ) (a b : Outlets) (one other : NetworkState)
     → NetworkDrains old host m a.before a.after one → NetworkDrains old host n b.before b.after other
     → DrainsAreAlike host a b one other
 drains-alike old host m n a b one other x y =
@@ -99,7 +99,7 @@ drains-alike old host m n a b one other x y =
           ∙ sym q.2);
     }
 
-pub drains-alike-from : (old old' : NetworkState) (host m n : ℕ) (a b : FrameSinks) (one other : NetworkState) → old ≡ old'
+pub drains-alike-from : (old old' : NetworkState) (host m n : ℕ) (a b : Outlets) (one other : NetworkState) → old ≡ old'
     → NetworkDrains old host m a.before a.after one → NetworkDrains old' host n b.before b.after other
     → DrainsAreAlike host a b one other
 drains-alike-from old old' host m n a b one other same x y =

@@ -3,7 +3,7 @@ use Rattle.std.proofs.Common.{◌≡◌, ◌≢◌, ◌++◌, ◌∷◌, [], ℕ
 use Rattle.std.specs.List.{All}
 use Rattle.std.proofs.lemmas.Bool.{false≢true}
 use Rattle.std.proofs.lemmas.List.Elements.{filter_passes}
-use Rattle.bus.proofs.Lists.{all-weaker}
+use Rattle.adapter.proofs.Lists.{all-weaker}
 use Rattle.driver.specs.declared.receiver.Received.{Received}
 use Rattle.packet_socket.specs.HostCalls.{HostServes, claimed_of, socket_entries}
 use Rattle.packet_socket.specs.HostState.{HostState, queue_at}

@@ -7,9 +7,9 @@ use Rattle.network_plan.specs.declared.plan.HostPlan.{HostPlan}
 use Rattle.network_plan.specs.declared.plan_error.PlanError.{PlanError}
 use Rattle.network_plan.specs.declared.plan_error.PlanError.TheVariants.{Address, Config, Ends, Hosts, Init, Memory, Name}
 use Rattle.packet_socket.specs.HostState.{HostState}
-use Rattle.rx_engine.specs.FilterLaws.{Passes-same, SameSets-sym}
-use Rattle.rx_engine.specs.Passing.{Passes}
-use Rattle.rx_engine.specs.Registers.{FilterRegisters, filter_of}
+use Rattle.rx_filter.specs.Laws.{Passes-same, SameSets-sym}
+use Rattle.rx_filter.specs.Passing.{Passes}
+use Rattle.rx_filter.specs.Registers.{FilterRegisters, filter_of}
 use Rattle.stations.specs.Stations.{StationState}
 use Rattle.wire.specs.Filters.{HasPlansFilter, plans_filter}
 use Rattle.wire.specs.HostsUp.{AreUp, ComesUp}

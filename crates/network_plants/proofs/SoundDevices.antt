@@ -1,7 +1,7 @@
 -- Over a lively bus, a device with a right checksum is found if its link needs at most 2,000 ticks.
 use Rattle.std.specs.Prelude.{◌*◌, ℕ, List, Result, Ok, Err, IfErr, IsOk}
 use Rattle.std.proofs.Common.{refl}
-use Rattle.registers.specs.Image.{HasRightSum}
+use Rattle.eeprom.specs.Image.{HasRightSum}
 use Rattle.adapter.specs.World.{World}
 use Rattle.bring_up.specs.Device.{IsErrorOf, IsErrorOfLively}
 use Rattle.bring_up.specs.EepromReading.{most_reads}

@@ -2,7 +2,7 @@
 use Rattle.std.specs.Prelude.{⊤, ◌≡◌, ◌≢◌, ◌⊎◌, ◌↔◌, ◌++◌, ℕ, Err, List, Result, Some, length, slice_get}
 use Rattle.adapter.specs.HostFrames.{frames_to_send}
 use Rattle.adapter.specs.World.{World}
-use Rattle.registers.specs.declared.phy.Link.TheVariants.{Never}
+use Rattle.mdic_phy.specs.declared.phy.Link.TheVariants.{Never}
 use Rattle.bring_up.specs.Link.{NeedsMoreThan}
 use Rattle.bring_up.specs.declared.init_error.InitError.{InitError}
 use Rattle.host_calls.specs.DrainedHosts.{HoldsNothing}
@@ -12,8 +12,8 @@ use Rattle.network_plan.specs.declared.plan_error.PlanError.{PlanError}
 use Rattle.network_plan.specs.declared.plan_error.PlanError.TheVariants as refused
 use Rattle.packet_socket.specs.HostCalls.{Given, given_for}
 use Rattle.packet_socket.specs.HostState.{HostState}
-use Rattle.rx_engine.specs.Passing.{Passes}
-use Rattle.rx_engine.specs.Registers.{filter_of}
+use Rattle.rx_filter.specs.Passing.{Passes}
+use Rattle.rx_filter.specs.Registers.{filter_of}
 use Rattle.stations.specs.Stations.{StationState, backlog_at, world_at}
 use Rattle.wire.specs.Equations.{missed_count}
 use Rattle.wire.specs.HostsUp.{most_link_ticks}
@@ -70,18 +70,18 @@ IsSameFailure host error answer = (answer ≡ Err refused.Memory) ⊎ (answer �
 -- Drains of one host from one state
 
 -- the frames of a sink before and after a drain
-pub record FrameSinks : Type 0 where
+pub record Outlets : Type 0 where
   pub before : List Given
   pub after : List Given
 
 -- a drain appended the frames `frames` to those in the sink
-pub record Gave (frame_sink : FrameSinks) : Type 0 where
+pub record Gave (outlet : Outlets) : Type 0 where
   pub frames : List Given
-  pub appended : frame_sink.after ≡ frame_sink.before ++ frames
+  pub appended : outlet.after ≡ outlet.before ++ frames
 
 -- After two drains of host `host`, these parts are equal. The first drain led to the network `one`, the second to
 -- `other`.
-pub record DrainsAreAlike (host : ℕ) (a b : FrameSinks) (one other : NetworkState) : Type 0 where
+pub record DrainsAreAlike (host : ℕ) (a b : Outlets) (one other : NetworkState) : Type 0 where
   -- the frames that each drain returned
   pub first : Gave a
   pub second : Gave b

@@ -3,7 +3,7 @@
 
 ghost use Rattle.std.specs.Prelude.{◌≡◌, ◌≤◌, ◌<◌, ◌+◌, ◌*◌, ◌↔◌, ℕ, Bool, IsOk, length};
 ghost use Rattle.dma_memory.specs.Layout.{descriptor_bytes};
-ghost use Rattle.rx_engine.specs.NumberTables.{HasNumbers, numbers_of_groups};
+ghost use Rattle.rx_filter.specs.NumberTables.{HasNumbers, numbers_of_groups};
 ghost use Rattle.bring_up.specs.ClearedDescriptors.{clears_from};
 ghost use Rattle.bring_up.specs.Configuration.{IsValidIn};
 ghost use Rattle.bring_up.specs.Device.{FindsDevice};
@@ -11,14 +11,15 @@ ghost use Rattle.bring_up.specs.EepromReading.{ReadsImage};
 ghost use Rattle.bring_up.specs.Link.{AwaitsLink};
 ghost use Rattle.bring_up.specs.RingRegisters.{receive_writes};
 ghost use Rattle.bring_up.specs.SettingSteps.{SetsOnly};
-ghost use Rattle.bus.specs.Calls.{IsReadyOver, Ran, at, only};
-ghost use Rattle.bus.specs.DriverState.{DriverState, address_limit, receive_slot};
+ghost use Rattle.adapter.specs.Calls.{IsReadyOver, Ran, at, only};
+ghost use Rattle.adapter.specs.DriverState.{DriverState, address_limit, receive_slot};
 
-use bring_up::{Config, FilterModes, InitError};
-use bus::Bus;
+use adapter::Bus;
+use bring_up::FilterModes;
 use dma_memory::Layout;
-use registers::Image;
-use rx_engine::TABLE_WORDS;
+use driver::{Config, InitError};
+use eeprom::Image;
+use rx_filter::TABLE_WORDS;
 
 /// A twin of [`bring_up::find_device`].
 pub fn find_device<B: Bus>(bus: &mut B, kilobytes: u8) -> Result<Image, InitError>

@@ -9,7 +9,7 @@ ghost use Rattle.packet_socket.specs.HostCalls.{HostServes, Returns, host_at};
 ghost use Rattle.packet_socket.specs.HostState.{queue_at};
 ghost use Rattle.packet_socket.specs.declared.receive.RecvError.TheVariants as RecvError;
 
-use bus::Bus;
+use adapter::Bus;
 use driver::{Handled, SendError};
 use packet_socket::{Host, HostAnswer, HostCall, RecvError};
 

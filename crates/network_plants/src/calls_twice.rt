@@ -15,11 +15,10 @@ ghost use Rattle.network_plants.specs.Alike.{LinksAreClear, NetworksAreAlike};
 ghost use Rattle.network_plants.specs.AlikeTexts.{ReadAlike, RefusedAlike};
 
 use descriptors::Frame;
-use network_plan::{Plan, PlanError};
 use rx_engine::MOST_FRAMES;
 use scenario::{Refusal, Scenario};
 use std::alloc::Global;
-use wire::{Counts, FrameSink, Lan};
+use wire::{Counts, Lan, Outlet, Plan, PlanError};
 
 /// [`Scenario::read`] twice: if both calls read the text, the hosts, commands and traces are the same. If the first
 /// call refuses the text for a line, the second call refuses the text for the same line and fault, or because memory is
@@ -76,7 +75,7 @@ pub fn drain_room_twice(lan: &Lan, host: usize) -> (usize, usize)
 
 /// [`Lan::drain`] twice: in two drains of one host, from equal networks, each socket returns the same frames. The
 /// networks after the drains are equal in the parts that `DrainsAreAlike` lists.
-pub fn drain_twice<S: FrameSink>(
+pub fn drain_twice<S: Outlet>(
     one: &mut Lan,
     other: &mut Lan,
     host: usize,

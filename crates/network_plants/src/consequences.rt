@@ -3,7 +3,7 @@
 
 ghost use Rattle.std.specs.Prelude.{◌≡◌, ◌≢◌, ◌*◌, ◌+◌, ◌≤◌, ◌++◌, ◌∷◌, [], All, IsOk, List, length};
 ghost use Rattle.dma_memory.specs.Layout.{size_of};
-ghost use Rattle.registers.specs.Image.{HasRightSum};
+ghost use Rattle.eeprom.specs.Image.{HasRightSum};
 ghost use Rattle.bring_up.specs.EepromReading.{most_reads};
 ghost use Rattle.bring_up.specs.Link.{NeedsMoreThan};
 ghost use Rattle.driver.specs.HandlerSteps.{IfHandled};
@@ -12,11 +12,10 @@ ghost use Rattle.packet_socket.specs.HostState.{queue_at};
 ghost use Rattle.packet_socket.specs.declared.socket_kind.SocketKind.TheVariants as kinds;
 ghost use Rattle.driver.specs.Growth.{GrowsBy};
 
-use bring_up::InitError;
-use bus::Bus;
-use driver::{Driver, Handled, Receiver};
+use adapter::Bus;
+use driver::{Driver, Handled, InitError, Receiver};
+use eeprom::Image;
 use packet_socket::Host;
-use registers::Image;
 
 /// Over a lively bus that obeys the law, a device with a right checksum is found if its link needs at most 2,000 ticks.
 pub fn sound_devices_are_found<B: Bus>(bus: &mut B, kilobytes: u8) -> Result<Image, InitError>

@@ -4,8 +4,8 @@
 ghost use Rattle.std.specs.Prelude.{◌<◌, ◌≤◌, ◌++◌, All, IfErr, take};
 ghost use Rattle.dma_memory.specs.Layout.{size_of};
 ghost use Rattle.dma_memory.specs.Owners.{HasNoSecondOwner, HaveSameNumbers};
-ghost use Rattle.bus.specs.Calls.{OffersAll, Runs, WhereReady, at, only};
-ghost use Rattle.bus.specs.DriverState.{owners};
+ghost use Rattle.adapter.specs.Calls.{OffersAll, Runs, WhereReady, at, only};
+ghost use Rattle.adapter.specs.DriverState.{owners};
 ghost use Rattle.driver.specs.HandlerSteps.{Handles, ReadsHeld, WhereReadyIn, scene};
 ghost use Rattle.driver.specs.Initialisation.{RefusesInit};
 ghost use Rattle.driver.specs.Parts.{IsWholeFrame, buffers_in, part_loads};
@@ -13,9 +13,8 @@ ghost use Rattle.driver.specs.RefillSteps.{Refills, WhereHeld};
 ghost use Rattle.driver.specs.Resetting.{Resets};
 ghost use Rattle.driver.specs.SendSteps.{Transmits};
 
-use bring_up::{Config, InitError};
-use bus::Bus;
-use driver::{Driver, Handled, Parts, Received, Receiver, SendError};
+use adapter::Bus;
+use driver::{Config, Driver, Handled, InitError, Parts, Received, Receiver, SendError};
 use std::alloc::Global;
 
 /// A twin of [`Driver::init`].

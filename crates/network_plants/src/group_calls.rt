@@ -3,12 +3,11 @@
 
 ghost use Rattle.std.specs.Prelude.{◌≡◌};
 ghost use Rattle.std.specs.Result.{OnOk};
-ghost use Rattle.bus.specs.Calls.{WhereReady, at};
+ghost use Rattle.adapter.specs.Calls.{WhereReady, at};
 ghost use Rattle.bring_up.specs.Groups.{ChangesJoined, HasNumber};
 
-use bring_up::GroupError;
-use bus::Bus;
-use driver::Driver;
+use adapter::Bus;
+use driver::{Driver, GroupError};
 
 /// A twin of [`Driver::join`].
 pub fn join<B: Bus>(driver: &mut Driver, bus: &mut B, group: [u8; 6]) -> Result<(), GroupError>

@@ -7,10 +7,9 @@ ghost use Rattle.packet_socket.specs.HostState.{HostState};
 ghost use Rattle.wire.specs.DrainedNetworks.{NetworkDrains};
 ghost use Rattle.wire.specs.Runs.{RunTold, RunsTo, StopsAt};
 
-use network_plan::{Event, Reply, Stopped};
 use rx_engine::MOST_FRAMES;
 use std::alloc::Global;
-use wire::{FrameSink, Lan, RunObserver};
+use wire::{Event, Lan, Outlet, Reply, RunObserver, Stopped};
 
 /// A twin of [`Lan::play`], with the clause for errors.
 pub fn play<O: RunObserver>(
@@ -48,7 +47,7 @@ pub fn run(
 }
 
 /// A twin of [`Lan::drain`].
-pub fn drain<S: FrameSink>(lan: &mut Lan, host: usize, sink: &mut S) -> u64
+pub fn drain<S: Outlet>(lan: &mut Lan, host: usize, sink: &mut S) -> u64
     requires room { (state : HostState) → IsHost lan.old host state
         → state.driver.layout.buffers + MOST_FRAMES ≤ S.room_left sink.old }
     ensures drains { NetworkDrains lan.old host result (S.frames sink.old) (S.frames sink.new) lan.new }

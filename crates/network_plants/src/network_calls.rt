@@ -14,7 +14,8 @@ ghost use Rattle.host_calls.specs.ResetsInSteps.{MakesReset};
 
 use host_calls::{Called, GivenUp, Network, WasReset};
 use packet_socket::HostCall;
-use stations::{Observer, Tick};
+use stations::Observer;
+use wire::Tick;
 
 /// A twin of [`Network::call`].
 pub fn call_in_network<O: Observer>(

@@ -4,7 +4,9 @@ use adapter::offsets::{GPRC, ICR, RCTL, RDLEN, RDT};
 use adapter::{Adapter, Fate, Outcome, StepKind};
 use bitflags::Flags;
 use dma_memory::HostMemory;
-use registers::{Cause, Image, Link, Rctl};
+use eeprom::Image;
+use mdic_phy::Link;
+use registers::{Cause, Rctl};
 use std::test::Fail;
 
 #[test]

@@ -1,12 +1,12 @@
 //! The code of the README of `bring_up`, word for word.
 
 use crate::buses::good_bus;
+use adapter::Bus;
 use adapter::offsets::RDLEN;
 use bring_up::{
     RingPlace, find_device, group_table, set_receive_ring, vlan_table, write_addresses,
     write_groups, write_vlans,
 };
-use bus::Bus;
 use std::test::Fail;
 
 #[test]

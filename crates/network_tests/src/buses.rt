@@ -1,13 +1,12 @@
 //! A configuration, a lively bus with a new adapter, and a host, for tests.
 
-use adapter::Adapter;
+use adapter::{Adapter, Bus, SoloBus};
 use arrayvec::ArrayVec;
-use bring_up::{Config, InitError};
-use bus::Bus;
 use dma_memory::HostMemory;
+use driver::{Config, InitError};
+use eeprom::Image;
+use mdic_phy::Link;
 use packet_socket::{Host, SocketKind};
-use registers::{Image, Link};
-use solo_bus::SoloBus;
 use std::alloc::{AllocError, Global};
 
 /// The size in bytes of the memory for rings of 8 slots and 16 receive buffers.

@@ -1,12 +1,11 @@
 //! Tests of the number of steps of a drain, and that a drain allocates no memory. Tests of the built program check
 //! which frames a drain returns, and in which order.
 
-use crate::frame_sink::Taken;
+use crate::outlet::Taken;
 use crate::texts::{events_of, scenario_in};
-use network_plan::PlanError;
 use std::alloc::Global;
 use std::process::Abort;
-use wire::Lan;
+use wire::{Lan, PlanError};
 
 /// The lines of two hosts on one wire.
 const HOSTS: &str = "host a 02:00:00:00:00:01 w\nhost b 02:00:00:00:00:02 w\n";

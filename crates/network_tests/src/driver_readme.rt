@@ -1,10 +1,9 @@
 //! The code of the README of `driver`, word for word.
 
 use crate::buses::good_bus;
+use adapter::Bus;
 use arrayvec::ArrayVec;
-use bring_up::Config;
-use bus::Bus;
-use driver::Driver;
+use driver::{Config, Driver};
 use std::test::Fail;
 
 #[test]

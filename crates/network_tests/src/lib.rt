@@ -17,8 +17,6 @@ mod drains;
 #[cfg(test)]
 mod driver_readme;
 #[cfg(test)]
-mod frame_sink;
-#[cfg(test)]
 mod logs;
 #[cfg(test)]
 mod memory;
@@ -26,6 +24,8 @@ mod memory;
 mod network_memory;
 #[cfg(test)]
 mod no_memory;
+#[cfg(test)]
+mod outlet;
 #[cfg(test)]
 mod packet_socket_readme;
 #[cfg(test)]

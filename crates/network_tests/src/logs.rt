@@ -1,11 +1,10 @@
 //! Tests of the log of a wire: the number of the log's entries, and the senders of the frames in it.
 
 use crate::texts::{events_of, scenario_in};
-use network_plan::Event;
 use std::alloc::Global;
 use std::process::Abort;
 use std::test::Fail;
-use wire::Lan;
+use wire::{Event, Lan};
 
 /// The number of frames that host `a` puts on the wire.
 const FRAMES: u32 = 2000;

@@ -1,9 +1,9 @@
 //! Allocations that may fail, and the texts of errors.
 
-use bus::StoredBytes;
+use adapter::StoredBytes;
+use adapter::sound_buses::{with_buffered_frame, with_work};
 use dma_memory::{HostMemory, LayoutError, OutOfRange, Pool};
-use registers::Image;
-use solo_bus::sound_buses::{with_buffered_frame, with_work};
+use eeprom::Image;
 use std::alloc::Global;
 use std::test::Fail;
 

@@ -1,10 +1,9 @@
 //! A test that a network can be made, and that a run can be continued, after a failed allocation.
 
 use crate::texts::{events_of, scenario_in};
-use network_plan::{Event, Plan, PlanError, Reply};
 use std::alloc::Global;
 use std::process::Abort;
-use wire::Lan;
+use wire::{Event, Lan, Plan, PlanError, Reply};
 
 /// Host `b` receives two frames of host `a`. A socket of `b` returns the first frame; the second remains in the receive
 /// ring of `b`. A reset of `a` drops a third frame. Ticks are played inside sends, an interrupt, calls of a socket, and

@@ -2,11 +2,9 @@
 //! allocation after the initialization fails.
 
 use crate::buses::{good_bus, new_host};
-use adapter::StepKind;
-use bus::{Bus, HonestBus};
+use adapter::{Bus, HonestBus, SoloBus, SoloTick, StepKind};
 use driver::Handled;
 use packet_socket::Host;
-use solo_bus::{SoloBus, SoloTick};
 use std::alloc::Global;
 use std::process::Abort;
 
@@ -33,7 +31,7 @@ fn calls<B: Bus>(rt: &impl Abort, host: &mut Host, bus: &mut B) {
 fn receives(rt: &impl Abort, bus: &mut SoloBus) {
     bus.arrive(&FRAME);
     assert_eq!(rt; bus.waiting(), 0);
-    bus.queue(&[
+    bus.play(&[
         SoloTick::Step(StepKind::RxData),
         SoloTick::Step(StepKind::RxDone),
     ]);

@@ -1,9 +1,8 @@
 //! The code of the README of `packet_socket`, word for word.
 
 use crate::buses::{config, good_bus};
-use adapter::StepKind;
+use adapter::{Bus, HonestBus, StepKind};
 use arrayvec::ArrayVec;
-use bus::{Bus, HonestBus};
 use driver::Handled;
 use packet_socket::{Host, SocketKind};
 use std::test::Fail;

@@ -1,8 +1,8 @@
 //! Failed allocations of a new host.
 
 use crate::buses::{good_bus, new_host};
-use bring_up::InitError;
-use bus::{Bus, HonestBus};
+use adapter::{Bus, HonestBus};
+use driver::InitError;
 use std::alloc::Global;
 use std::process::Abort;
 

@@ -1,7 +1,8 @@
 //! The code of the README of `registers`, word for word.
 
 use bitflags::Flags;
-use registers::{Cause, Causes, Link, Mdic, PciFunction, Phy, PortWidth};
+use mdic_phy::{Link, Mdic, Phy};
+use registers::{Cause, Causes, PciFunction, PortWidth};
 
 #[test]
 fn the_code_of_the_readme_of_registers(rt: HostRuntime) {

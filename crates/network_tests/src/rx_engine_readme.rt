@@ -4,9 +4,8 @@ use bitflags::Flags;
 use descriptors::Ring;
 use dma_memory::HostMemory;
 use registers::{GroupOffset, Rctl};
-use rx_engine::{
-    AddressWords, Data, Done, Fate, Filter, RxEngine, TableBit, arrive, hash_of, rx_data, rx_done,
-};
+use rx_engine::{Data, Done, Fate, RxEngine, arrive, rx_data, rx_done};
+use rx_filter::{AddressWords, Filter, TableBit, hash_of};
 use std::test::Fail;
 
 #[test]

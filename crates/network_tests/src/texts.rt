@@ -1,9 +1,9 @@
 //! Plans and events, read from the texts of scenarios.
 
-use network_plan::Event;
 use scenario::{Command, Refusal, Scenario};
 use std::alloc::Global;
 use std::process::Abort;
+use wire::Event;
 
 /// Returns the scenario of a valid text, or `None` if an allocation fails.
 pub(crate) fn scenario_in(rt: &impl Abort, alloc: Global, text: &str) -> Option<Scenario> {

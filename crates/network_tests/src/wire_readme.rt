@@ -1,19 +1,17 @@
 //! The code of READMEs, word for word.
 
-use crate::frame_sink::Taken;
+use crate::outlet::Taken;
 use adapter::offsets::EERD;
-use adapter::{Adapter, Outcome, StepKind};
+use adapter::{Adapter, Bus, Machine, Outcome, StepKind};
 use arrayvec::ArrayVec;
-use bring_up::Config;
-use bus::{Bus, Machine};
 use dma_memory::HostMemory;
-use driver::Handled;
-use network_plan::{HostPlan, Plan, PlanError};
-use registers::{Image, Link};
+use driver::{Config, Handled};
+use eeprom::Image;
+use mdic_phy::Link;
 use scenario::Scenario;
-use stations::{LentBus, Outcomes, Stations, Tick};
+use stations::{LentBus, Outcomes, Stations};
 use std::test::Fail;
-use wire::{Answer, Event, Lan};
+use wire::{Answer, Event, HostPlan, Lan, Plan, PlanError, Tick};
 
 #[test]
 fn the_code_of_the_readme_of_wire(rt: HostRuntime) -> Result<(), Fail> {

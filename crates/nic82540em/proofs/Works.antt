@@ -1,6 +1,6 @@
 -- The mask of the kinds of steps that have something to do.
 use Rattle.std.proofs.Common.{◌+◌, ◌∙◌, ℕ, ap}
-use Rattle.adapter.specs.declared.step.StepKind.TheVariants.{EepromTick, PhyTick, RxData, RxDone, TxPut, TxTake}
+use Rattle.adapter.specs.model_types.step.StepKind.TheVariants.{EepromTick, PhyTick, RxData, RxDone, TxPut, TxTake}
 use Rattle.nic82540em.specs.Calls.{HasWork, TellsPossible, AnswersWork, bit_if}
 use Rattle.played_adapter.proofs.EachKind.{for_each, for_kind}
 use Rattle.nic82540em.specs.declared.watched.WatchedAdapter.{WatchedAdapter}

@@ -4,14 +4,14 @@ use Rattle.std.specs.Prelude.{◌&&◌, if◌then◌else◌, is_some, length, na
 use Rattle.rand_core.specs.Pcg32Seed.{pcg32_seed}
 use Rattle.rand_pcg.specs.Pcg.{pcg32_of_seed}
 use Rattle.adapter.specs.State.{AdapterState}
-use Rattle.adapter.specs.declared.outcome.Outcome.{Outcome}
-use Rattle.adapter.specs.declared.step.StepKind.{StepKind}
-use Rattle.adapter.specs.declared.step.StepKind.TheVariants.{EepromTick, PhyTick, RxData, RxDone, TxPut, TxTake}
+use Rattle.adapter.specs.model_types.outcome.Outcome.{Outcome}
+use Rattle.adapter.specs.model_types.step.StepKind.{StepKind}
+use Rattle.adapter.specs.model_types.step.StepKind.TheVariants.{EepromTick, PhyTick, RxData, RxDone, TxPut, TxTake}
 use Rattle.access_names.specs.Targets.{memory_target_in}
 use Rattle.access_names.specs.declared.target.Target.{Target}
-use Rattle.bus.specs.declared.event.Access.{Access}
-use Rattle.registers.specs.Image.{image_with}
-use Rattle.registers.specs.declared.phy.Link.{Link}
+use Rattle.adapter.specs.bus_types.event.Access.{Access}
+use Rattle.eeprom.specs.Image.{image_with}
+use Rattle.mdic_phy.specs.declared.phy.Link.{Link}
 use Rattle.rx_engine.specs.declared.arrival.Fate.{Fate}
 use Rattle.nic82540em.specs.Numbers.{fate_number, is_receive_share, kind_with, link_with, outcome_number, refused}
 use Rattle.nic82540em.specs.Events.{HearsBetween, no_events, without_first}

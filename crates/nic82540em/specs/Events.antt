@@ -1,7 +1,7 @@
 -- The events that are kept for C's program (our choice).
 use Rattle.std.specs.Prelude.{◌==◌, ◌&&◌, ◌++◌, ◌∷◌, ◌≡◌, [], ℕ, false, List, Option, Some, None, drop, if◌then◌else◌, length, nat_lt}
-use Rattle.adapter.specs.declared.step.StepKind.{StepKind}
-use Rattle.adapter.specs.declared.step.StepKind.TheVariants.{EepromTick, PhyTick, RxData, RxDone, TxPut, TxTake}
+use Rattle.adapter.specs.model_types.step.StepKind.{StepKind}
+use Rattle.adapter.specs.model_types.step.StepKind.TheVariants.{EepromTick, PhyTick, RxData, RxDone, TxPut, TxTake}
 use Rattle.access_names.specs.declared.engine_fault.EngineFault.{EngineFault}
 use Rattle.access_names.specs.declared.engine_fault.Reason.{Reason}
 use Rattle.access_names.specs.declared.engine_fault.Reason.TheVariants.{Ring, Descriptor, Dext, Eop, Length, Buffer, Bsex}

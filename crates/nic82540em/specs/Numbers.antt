@@ -1,11 +1,11 @@
 -- Numbers that stand for options, kinds of steps, outcomes and fates in calls from C (our choice).
 use Rattle.std.specs.Prelude.{◌==◌, ◌%◌, ◌&&◌, ℕ, Bool, Option, Some, None, if◌then◌else◌, nat_le, nat_lt}
-use Rattle.adapter.specs.declared.outcome.Outcome.{Outcome}
-use Rattle.adapter.specs.declared.outcome.Outcome.TheVariants.{Took, Put, WireFull, Part, Moved, Done, Delivered, Ticked, Nothing, Fault}
-use Rattle.adapter.specs.declared.step.StepKind.{StepKind}
+use Rattle.adapter.specs.model_types.outcome.Outcome.{Outcome}
+use Rattle.adapter.specs.model_types.outcome.Outcome.TheVariants.{Took, Put, WireFull, Part, Moved, Done, Delivered, Ticked, Nothing, Fault}
+use Rattle.adapter.specs.model_types.step.StepKind.{StepKind}
 use Rattle.played_adapter.specs.Kinds.{kind_numbered}
-use Rattle.registers.specs.declared.phy.Link.{Link}
-use Rattle.registers.specs.declared.phy.Link.TheVariants.{After, Never}
+use Rattle.mdic_phy.specs.declared.phy.Link.{Link}
+use Rattle.mdic_phy.specs.declared.phy.Link.TheVariants.{After, Never}
 use Rattle.rx_engine.specs.declared.arrival.Fate.{Fate}
 use Rattle.rx_engine.specs.declared.arrival.Fate.TheVariants.{Off, Illegal, Filtered, Missed, Stored}
 

@@ -13,7 +13,7 @@ use Rattle.nic82540em.specs.contracts.watched.WatchedAdapter.{the_row}
 use Rattle.nic82540em.specs.declared.watched.WatchedAdapter.{WatchedAdapter}
 use Rattle.nic82540em.specs.Events.{no_events}
 use Rattle.played_adapter.specs.Playing.{new_player}
-use Rattle.registers.specs.declared.phy.Link.TheVariants.{Never}
+use Rattle.mdic_phy.specs.declared.phy.Link.TheVariants.{Never}
 
 -- a full owner owns a box, and an empty owner contains the null pointer
 abbrev pub held_owns : Bool → Global → Ptr → the_row.Denot → Fml

@@ -3,7 +3,7 @@
 // is kept.
 
 ghost use Rattle.std.specs.Prelude.{⊤, ◌≡◌, IfSome, false, length};
-ghost use Rattle.bus.specs.declared.event.Access.TheVariants.{Reads, Writes};
+ghost use Rattle.adapter.specs.bus_types.event.Access.TheVariants.{Reads, Writes};
 ghost use Rattle.nic82540em.specs.Calls.{AccessAnswered, LoadAnswered, StoreAnswered, with_accesses};
 ghost use Rattle.nic82540em.specs.Handles.{IsSound, OnlyLooks, OnAdapter};
 

@@ -2,7 +2,7 @@
 // are played before each access. Cycles follow an access or an arrival, up to the maximum of `pace`.
 
 ghost use Rattle.std.specs.Prelude.{◌≡◌, ◌&&◌, IfOk, nat_lt, true};
-ghost use Rattle.bus.specs.declared.event.Access.TheVariants.{Reads, Writes};
+ghost use Rattle.adapter.specs.bus_types.event.Access.TheVariants.{Reads, Writes};
 ghost use Rattle.nic82540em.specs.Calls.{AccessAnswered, LoadAnswered, StoreAnswered, IsWatchedCopy};
 ghost use Rattle.nic82540em.specs.Calls.{Follows, HeardByEvents, IsMade, IsMadeOf, IsPlain, adapter_with_options};
 ghost use Rattle.nic82540em.specs.Calls.{image_of};
@@ -15,8 +15,9 @@ use access_names::Target;
 use adapter::Adapter;
 use adapter::offsets::PBA;
 use dma_memory::HostMemory;
+use eeprom::Image;
+use mdic_phy::Link;
 use played_adapter::PlayedAdapter;
-use registers::{Image, Link};
 use std::alloc::{AllocError, Global};
 use step_schedules::Before;
 

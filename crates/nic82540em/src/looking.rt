@@ -2,8 +2,8 @@
 
 ghost use Rattle.std.specs.Prelude.{◌≡◌, false, length, true};
 ghost use Rattle.adapter.specs.Registers.{answer_at};
-ghost use Rattle.bus.specs.Digests.{digest_of};
-ghost use Rattle.bus.specs.Machines.{is_asserted};
+ghost use Rattle.adapter.specs.Digests.{digest_of};
+ghost use Rattle.adapter.specs.Machines.{is_asserted};
 ghost use Rattle.nic82540em.specs.Calls.{TellsPossible};
 ghost use Rattle.nic82540em.specs.Digests.{state_digest_of};
 ghost use Rattle.nic82540em.specs.Handles.{IsSound, OnlyLooks, OnAdapter};

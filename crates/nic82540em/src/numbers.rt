@@ -6,7 +6,8 @@ ghost use Rattle.nic82540em.specs.Numbers as numbers;
 
 use access_names::Reason;
 use adapter::{Fate, Outcome, StepKind};
-use registers::{Link, WORDS};
+use eeprom::WORDS;
+use mdic_phy::Link;
 
 /// The number that `nic82540em_step` and `nic82540em_arrive` return if they are refused. `nic82540em_play` returns
 /// this number if it is refused and can't return the number of a faulty line.

@@ -6,14 +6,14 @@ use Rattle.std.specs.Prelude.{Err, Ok, ◌↔◌}
 use Rattle.std.specs.Result.{OnErr, OnOk}
 use Rattle.std.proofs.lemmas.List.Elements.{All-cons}
 use Rattle.std.proofs.lemmas.Bool.{cases_eq}
-use Rattle.bus.proofs.Lists.{all-none}
-use Rattle.bus.specs.declared.bus.Bus.{Ghosts}
-use Rattle.bus.specs.declared.event.Access.{Access}
-use Rattle.bus.specs.declared.event.Access.TheVariants.{Writes}
-use Rattle.rx_engine.specs.Addresses.{IsGroup}
-use Rattle.rx_engine.specs.GroupLists.{Removes}
-use Rattle.bus.specs.Calls.{IsRefilled, Moment, held_at}
-use Rattle.bus.specs.DriverState.{DriverState}
+use Rattle.adapter.proofs.Lists.{all-none}
+use Rattle.adapter.specs.bus_types.bus.Bus.{Ghosts}
+use Rattle.adapter.specs.bus_types.event.Access.{Access}
+use Rattle.adapter.specs.bus_types.event.Access.TheVariants.{Writes}
+use Rattle.rx_filter.specs.Addresses.{IsGroup}
+use Rattle.rx_filter.specs.GroupLists.{Removes}
+use Rattle.adapter.specs.Calls.{IsRefilled, Moment, held_at}
+use Rattle.adapter.specs.DriverState.{DriverState}
 use Rattle.bring_up.specs.Groups.{ChangesJoined, SetsTable, with_groups, word_of}
 use Rattle.bring_up.specs.declared.groups.GroupError.TheVariants.{GroupsFull, Joined, NotGroup, NotJoined}
 use Rattle.bring_up.proofs.Numbers.{word_below}

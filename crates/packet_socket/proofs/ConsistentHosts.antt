@@ -9,10 +9,10 @@ use Rattle.dma_memory.specs.Owners.{HasNoSecondOwner, HaveSameNumbers, copies}
 use Rattle.dma_memory.specs.OwnersLaws.{copies-append, known_from_no_second, length-no_second}
 use Rattle.dma_memory.specs.Layout.{Counts}
 use Rattle.adapter.specs.World.{World}
-use Rattle.bus.proofs.Lists.{all-head, all-none, all-right, all-without}
-use Rattle.bus.proofs.Owners.{all-copies}
-use Rattle.bus.specs.DriverState.{DriverState, HandedOut, holding, owners}
-use Rattle.bus.specs.ReadyDrivers.{ReadyWith}
+use Rattle.adapter.proofs.Lists.{all-head, all-none, all-right, all-without}
+use Rattle.adapter.proofs.Owners.{all-copies}
+use Rattle.adapter.specs.DriverState.{DriverState, HandedOut, holding, owners}
+use Rattle.adapter.specs.ReadyDrivers.{ReadyWith}
 use Rattle.driver.specs.HandlerSteps.{IfHandled, IfNotMine, ServesReceiver}
 use Rattle.driver.specs.Parts.{AreFrames, IsWholeFrame, buffers_in, buffers_of}
 use Rattle.driver.specs.declared.interrupt.Handled.{Handled}

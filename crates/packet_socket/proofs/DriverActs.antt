@@ -1,15 +1,15 @@
 -- A call that takes and returns no frame, over a bus.
 use Rattle.std.proofs.Common.{Bool, ◌≡◌, [], ℕ, List, refl, sym, subst}
 use Rattle.std.specs.List.{All}
-use Rattle.bus.proofs.Composition.{happens_none}
-use Rattle.bus.proofs.Lists.{all-none}
+use Rattle.adapter.proofs.Composition.{happens_none}
+use Rattle.adapter.proofs.Lists.{all-none}
 use Rattle.adapter.specs.World.{World}
-use Rattle.bus.specs.Pasts.{Past, joined, nothing}
-use Rattle.bus.specs.declared.event.Access.{Access}
-use Rattle.bus.specs.declared.bus.Bus.{Ghosts}
-use Rattle.bus.proofs.Intervals.{joined-nothing, work_kept}
-use Rattle.bus.specs.Calls.{DriverDid, DriverInWorld, FollowsWrites, GoesTo, IsRefilled, Moment, driver_did, driver_in}
-use Rattle.bus.specs.DriverState.{DriverState, holding}
+use Rattle.adapter.specs.Pasts.{Past, joined, nothing}
+use Rattle.adapter.specs.bus_types.event.Access.{Access}
+use Rattle.adapter.specs.bus_types.bus.Bus.{Ghosts}
+use Rattle.adapter.proofs.Intervals.{joined-nothing, work_kept}
+use Rattle.adapter.specs.Calls.{DriverDid, DriverInWorld, FollowsWrites, GoesTo, IsRefilled, Moment, driver_did, driver_in}
+use Rattle.adapter.specs.DriverState.{DriverState, holding}
 use Rattle.packet_socket.specs.HostActs.{ActKind, CallStages, IsAccessOf, IsOfDriver, OnlyLastWrites, OverBus, PassesStage, PassesStages}
 use Rattle.packet_socket.specs.HostActs.{Ends, accesses_in, changed_by, no_act}
 use Rattle.packet_socket.specs.HostCalls.{HostMoment, IsReadyHost, driver_at, driver_of, host_at}

@@ -4,17 +4,17 @@ use Rattle.std.specs.List.{All}
 use Rattle.std.proofs.lemmas.List.{append-nil}
 use Rattle.std.proofs.lemmas.List.Elements.{All-append, All-cons}
 use Rattle.std.proofs.lemmas.Nat.{mod_below}
-use Rattle.adapter.specs.declared.offsets.TheConstants.{ICR, MPC, RDT, TDT}
+use Rattle.adapter.specs.model_types.offsets.TheConstants.{ICR, MPC, RDT, TDT}
 use Rattle.dma_memory.specs.Layout.{Counts}
 use Rattle.descriptors.specs.Ring.{slots_from}
 use Rattle.descriptors.specs.RingLaws.{place}
 use Rattle.std.specs.List.{concat}
-use Rattle.bus.proofs.Lists.{all-head, all-none, all-tail}
-use Rattle.bus.specs.declared.event.Access.{Access}
-use Rattle.bus.specs.declared.event.Access.TheVariants.{Loads, Reads, Stores, Writes}
-use Rattle.bus.specs.Calls.{ether_type_load, receive_loads, send_accesses, stores_from, tail_buffer, tail_slot, tail_write}
-use Rattle.bus.specs.Calls.{takes_from, transmit_loads, whole_descriptor}
-use Rattle.bus.specs.DriverState.{DriverState, buffer_at, next_receive, receive_slot, transmit_slot, transmit_tail}
+use Rattle.adapter.proofs.Lists.{all-head, all-none, all-tail}
+use Rattle.adapter.specs.bus_types.event.Access.{Access}
+use Rattle.adapter.specs.bus_types.event.Access.TheVariants.{Loads, Reads, Stores, Writes}
+use Rattle.adapter.specs.Calls.{ether_type_load, receive_loads, send_accesses, stores_from, tail_buffer, tail_slot, tail_write}
+use Rattle.adapter.specs.Calls.{takes_from, transmit_loads, whole_descriptor}
+use Rattle.adapter.specs.DriverState.{DriverState, buffer_at, next_receive, receive_slot, transmit_slot, transmit_tail}
 use Rattle.driver.specs.HandlerSteps.{offering_accesses, taking_accesses}
 use Rattle.driver.specs.Parts.{part_loads}
 use Rattle.driver.specs.SendSteps.{loads_to_free, slots_looked_at}

@@ -3,13 +3,13 @@ use Rattle.std.proofs.Common.{Bool, ◌≡◌, ◌++◌, ℕ, List, ap, inl, inr
 use Rattle.std.specs.List.{All}
 use Rattle.dma_memory.specs.Layout.{Counts}
 use Rattle.adapter.specs.World.{World}
-use Rattle.bus.specs.Pasts.{Past}
-use Rattle.bus.specs.declared.bus.Bus.{Ghosts}
-use Rattle.bus.specs.declared.event.Access.{Access}
+use Rattle.adapter.specs.Pasts.{Past}
+use Rattle.adapter.specs.bus_types.bus.Bus.{Ghosts}
+use Rattle.adapter.specs.bus_types.event.Access.{Access}
 use Rattle.driver.specs.declared.interrupt.Handled.{Handled}
 use Rattle.driver.specs.declared.interrupt.Handled.TheVariants.{NotMine}
 use Rattle.driver.specs.declared.interrupt.Handled.TheVariants as answers
-use Rattle.bus.specs.Calls.{DriverDid, DriverInWorld, FlowsTo}
+use Rattle.adapter.specs.Calls.{DriverDid, DriverInWorld, FlowsTo}
 use Rattle.packet_socket.specs.HostActs.{ActKind, CallStages, Effect, Ends, HandlesInterrupt, HostAct, IsAccessOf, IsOfHost, MovesFrames}
 use Rattle.packet_socket.specs.HostActs.{PassesStages, SetsGroups, Then, accesses_in, changed_by}
 use Rattle.std.specs.Prelude.{Err, None, Ok, Option, Result, Some}

@@ -8,16 +8,16 @@ use Rattle.std.proofs.lemmas.Grind.{common_steps, flat_map-append}
 use Rattle.std.proofs.lemmas.List.{append-nil, get_or-set_other}
 use Rattle.std.proofs.lemmas.Simd.{map-map}
 use Rattle.dma_memory.specs.Layout.{Counts}
-use Rattle.bus.proofs.Lists.{all-head, all-right, all-without}
+use Rattle.adapter.proofs.Lists.{all-head, all-right, all-without}
 use Rattle.descriptors.specs.Frames.{longest_frame}
-use Rattle.bus.specs.Pasts.{Past, joined}
-use Rattle.bus.specs.declared.bus.Bus.{Ghosts}
-use Rattle.bus.specs.declared.event.Access.{Access}
-use Rattle.bus.proofs.DriverAccesses.{ran_by-join}
-use Rattle.bus.proofs.Intervals.{work_kept}
-use Rattle.bus.specs.Calls.{GoesTo, IsRefilled, Ran, at, driver_did, driver_in, only, stores_from, tail_write}
-use Rattle.bus.specs.DriverState.{DriverState, HandedOut, frame_of, holding, next_receive, piece_numbers, with_owners}
-use Rattle.bus.specs.ReadyDrivers.{ReadyWith, Stands}
+use Rattle.adapter.specs.Pasts.{Past, joined}
+use Rattle.adapter.specs.bus_types.bus.Bus.{Ghosts}
+use Rattle.adapter.specs.bus_types.event.Access.{Access}
+use Rattle.adapter.proofs.DriverAccesses.{ran_by-join}
+use Rattle.adapter.proofs.Intervals.{work_kept}
+use Rattle.adapter.specs.Calls.{GoesTo, IsRefilled, Ran, at, driver_did, driver_in, only, stores_from, tail_write}
+use Rattle.adapter.specs.DriverState.{DriverState, HandedOut, frame_of, holding, next_receive, piece_numbers, with_owners}
+use Rattle.adapter.specs.ReadyDrivers.{ReadyWith, Stands}
 use Rattle.driver.specs.RefillSteps.{Refills}
 use Rattle.driver.specs.Parts.{AreFrames, IsFrameSize, IsWholeFrame, buffers_in, part_loads, parts_of}
 use Rattle.driver.specs.declared.receiver.Received.{Received}
@@ -32,7 +32,7 @@ use Rattle.packet_socket.proofs.DriverActs.{last-stage}
 use Rattle.packet_socket.proofs.Accounts.{accounts}
 use Rattle.packet_socket.proofs.QueueParts.{Splits}
 use Rattle.packet_socket.proofs.WaitingFrames.{AreLong, AreSame, IsLong, all-long, all-same, ends-as, parts-waiting, queue-frames-same}
-use Rattle.bus.proofs.Places.{place-below}
+use Rattle.adapter.proofs.Places.{place-below}
 use Rattle.packet_socket.proofs.DriversAccesses.{receives-last, receives-of_driver}
 
 given-here : (socket : ℕ) (frame : List ℕ) (other : ℕ) (goes : Bool) → (socket == other) ≡ goes

@@ -9,17 +9,17 @@ use Rattle.dma_memory.specs.Layout.{Counts}
 use Rattle.dma_memory.specs.Owners.{copies}
 use Rattle.dma_memory.specs.OwnersLaws.{copies-append, length-no_second}
 use Rattle.adapter.specs.World.{World}
-use Rattle.bus.proofs.Composition.{happens_none}
-use Rattle.bus.proofs.Lists.{all-left, all-right}
-use Rattle.bus.specs.Pasts.{Past, joined, nothing}
-use Rattle.bus.specs.declared.event.Access.TheVariants.{Reads}
-use Rattle.bus.proofs.TakenSlots.{buffers_can_come_back}
-use Rattle.bus.specs.declared.bus.Bus.{Ghosts}
-use Rattle.bus.specs.Calls.{FlowsTo, FollowsWrites, GoesTo, Moment, at, driver_did, driver_in}
-use Rattle.bus.proofs.Intervals.{joined-nothing}
-use Rattle.bus.proofs.Places.{place-below}
-use Rattle.bus.specs.DriverState.{DriverState, HandedOut, frame_of, holding, next_receive, piece_numbers, owners}
-use Rattle.bus.specs.ReadyDrivers.{ReadyWith, Stands}
+use Rattle.adapter.proofs.Composition.{happens_none}
+use Rattle.adapter.proofs.Lists.{all-left, all-right}
+use Rattle.adapter.specs.Pasts.{Past, joined, nothing}
+use Rattle.adapter.specs.bus_types.event.Access.TheVariants.{Reads}
+use Rattle.adapter.proofs.TakenSlots.{buffers_can_come_back}
+use Rattle.adapter.specs.bus_types.bus.Bus.{Ghosts}
+use Rattle.adapter.specs.Calls.{FlowsTo, FollowsWrites, GoesTo, Moment, at, driver_did, driver_in}
+use Rattle.adapter.proofs.Intervals.{joined-nothing}
+use Rattle.adapter.proofs.Places.{place-below}
+use Rattle.adapter.specs.DriverState.{DriverState, HandedOut, frame_of, holding, next_receive, piece_numbers, owners}
+use Rattle.adapter.specs.ReadyDrivers.{ReadyWith, Stands}
 use Rattle.driver.specs.HandlerSteps.{Asked, DoesNothing, Handles, HandlesIt, IfHandled, IfNotMine, IsSublist, OnlyReceives}
 use Rattle.driver.specs.Growth.{GrowsBy}
 use Rattle.driver.specs.HandlerSteps.{Scene, ServesReceiver}
@@ -46,8 +46,8 @@ use Rattle.packet_socket.proofs.ConsistentHosts.{kept-copies}
 use Rattle.packet_socket.proofs.QueuedPieces.{all-joined, all-pieces, entries-fit, received-numbers, waiting-numbers}
 use Rattle.packet_socket.proofs.WaitingFrames.{AreLong, AreSame, IsLong, all-long, all-long-after, queue-frames-same, read-long}
 use Rattle.packet_socket.proofs.WaitingFrames.{read-pieces, read-stands}
-use Rattle.bus.proofs.Steps.{goes-happens}
-use Rattle.bus.proofs.DriverAccesses.{follows-join}
+use Rattle.adapter.proofs.Steps.{goes-happens}
+use Rattle.adapter.proofs.DriverAccesses.{follows-join}
 use Rattle.bring_up.proofs.AlikeDrivers.{flows-alike, goes-alike}
 use Rattle.packet_socket.proofs.Intervals.{accounts-stay, driver-stays, queues-stand}
 

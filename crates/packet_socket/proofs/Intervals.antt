@@ -5,12 +5,12 @@ use Rattle.std.proofs.lemmas.List.{append-nil}
 use Rattle.dma_memory.specs.Layout.{Counts}
 use Rattle.adapter.specs.HostFrames.{frames_held}
 use Rattle.adapter.specs.World.{World}
-use Rattle.bus.specs.Law.{Happens}
-use Rattle.bus.specs.Pasts.{Past, joined}
-use Rattle.bus.proofs.Steps.{goes-happens}
-use Rattle.bus.specs.Calls.{DriverDid, DriverInWorld, GoesTo, driver_did, driver_in}
-use Rattle.bus.specs.DriverState.{DriverState, holding}
-use Rattle.bus.specs.ReadyDrivers.{Stands}
+use Rattle.adapter.specs.Law.{Happens}
+use Rattle.adapter.specs.Pasts.{Past, joined}
+use Rattle.adapter.proofs.Steps.{goes-happens}
+use Rattle.adapter.specs.Calls.{DriverDid, DriverInWorld, GoesTo, driver_did, driver_in}
+use Rattle.adapter.specs.DriverState.{DriverState, holding}
+use Rattle.adapter.specs.ReadyDrivers.{Stands}
 use Rattle.packet_socket.specs.HostCalls.{Accounts, HostDid, HostGoesTo, HostInWorld, HostInterval, HostReadyWith}
 use Rattle.packet_socket.specs.HostCalls.{did_both, did_nothing, driver_of, in_world, waiting_frame, waiting_frames}
 use Rattle.packet_socket.specs.HostState.{HostState, all_of, queue_at}

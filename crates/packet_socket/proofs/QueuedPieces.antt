@@ -10,8 +10,8 @@ use Rattle.std.proofs.lemmas.Simd.{map-map}
 use Rattle.dma_memory.specs.Layout.{Counts}
 use Rattle.dma_memory.specs.Owners.{copies}
 use Rattle.dma_memory.specs.OwnersLaws.{copies-append}
-use Rattle.bus.proofs.Lists.{all-head, all-left, all-none, all-right, all-tail}
-use Rattle.bus.specs.DriverState.{HandedOut, piece_numbers}
+use Rattle.adapter.proofs.Lists.{all-head, all-left, all-none, all-right, all-tail}
+use Rattle.adapter.specs.DriverState.{HandedOut, piece_numbers}
 use Rattle.driver.specs.Parts.{AreFrames, IsWholeFrame, buffers_in, buffers_of, lengths_in, part_of, parts_of, pieces_of, received_of}
 use Rattle.driver.specs.declared.parts.Part.{Part}
 use Rattle.driver.specs.declared.receiver.Received.{Received}
@@ -78,7 +78,7 @@ received-numbers (pieces ∷ later) =
 
 -- A whole frame has at least one piece, so the number of entries is at most the number of their buffers.
 has-pieces : (received : Received) → IsWholeFrame received → 0 < length received.parts
-has-pieces received whole = some received.parts received.length whole.size.least whole.sum
+has-pieces received whole = some received.parts received.len whole.size.least whole.sum
   where
     some : (parts : List Part) (n : ℕ) → 60 ≤ n → n ≡ sum (lengths_in parts) → 0 < length parts
     some [] n least none = let no_bytes : n ≡ 0 = none in absurd (omega (arith, least, no_bytes))

@@ -3,10 +3,10 @@ use Rattle.std.proofs.Common.{Bool, ◌≡◌, ◌++◌, map, sym, ap, subst, �
 use Rattle.dma_memory.specs.Layout.{Counts}
 use Rattle.dma_memory.specs.Owners.{HasNoSecondOwner, HaveSameNumbers}
 use Rattle.dma_memory.specs.OwnersLaws.{copies-append}
-use Rattle.bus.specs.declared.bus.Bus.{Ghosts}
-use Rattle.bus.specs.Calls.{Moment, held_at}
-use Rattle.bus.specs.DriverState.{DriverState, holding, owners}
-use Rattle.bus.specs.ReadyDrivers.{Ready}
+use Rattle.adapter.specs.bus_types.bus.Bus.{Ghosts}
+use Rattle.adapter.specs.Calls.{Moment, held_at}
+use Rattle.adapter.specs.DriverState.{DriverState, holding, owners}
+use Rattle.adapter.specs.ReadyDrivers.{Ready}
 use Rattle.driver.specs.Parts.{buffers_of}
 use Rattle.driver.specs.Resetting.{Resets}
 use Rattle.packet_socket.specs.HostCalls.{HostMoment, IsReadyHost, driver_at, driver_of, host_at, waiting_frame}

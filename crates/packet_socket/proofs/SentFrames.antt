@@ -6,17 +6,17 @@ use Rattle.dma_memory.specs.Layout.{Counts}
 use Rattle.descriptors.specs.Frames.{longest_frame, padded, shortest_sent}
 use Rattle.adapter.specs.Slots.{written_back_slots}
 use Rattle.adapter.specs.World.{World}
-use Rattle.adapter.specs.declared.offsets.TheConstants.{TDT}
-use Rattle.bus.specs.Pasts.{Past, joined}
-use Rattle.bus.specs.declared.bus.Bus.{Ghosts}
-use Rattle.bus.specs.declared.event.Access.{Access}
-use Rattle.bus.specs.declared.event.Access.TheVariants.{Stores, Writes}
-use Rattle.bus.proofs.FramesCounted.{slots_have_frames}
-use Rattle.bus.proofs.Intervals.{goes_join}
-use Rattle.bus.specs.Calls.{FollowsWrites, GoesTo, IsRefilled, Moment, driver_did, driver_in, held_at, send_accesses}
-use Rattle.bus.specs.Calls.{transmit_buffer, whole_descriptor}
-use Rattle.bus.specs.DriverState.{DriverState, holding, transmit_slot, transmit_tail}
-use Rattle.bus.specs.ReadyDrivers.{Ready}
+use Rattle.adapter.specs.model_types.offsets.TheConstants.{TDT}
+use Rattle.adapter.specs.Pasts.{Past, joined}
+use Rattle.adapter.specs.bus_types.bus.Bus.{Ghosts}
+use Rattle.adapter.specs.bus_types.event.Access.{Access}
+use Rattle.adapter.specs.bus_types.event.Access.TheVariants.{Stores, Writes}
+use Rattle.adapter.proofs.FramesCounted.{slots_have_frames}
+use Rattle.adapter.proofs.Intervals.{goes_join}
+use Rattle.adapter.specs.Calls.{FollowsWrites, GoesTo, IsRefilled, Moment, driver_did, driver_in, held_at, send_accesses}
+use Rattle.adapter.specs.Calls.{transmit_buffer, whole_descriptor}
+use Rattle.adapter.specs.DriverState.{DriverState, holding, transmit_slot, transmit_tail}
+use Rattle.adapter.specs.ReadyDrivers.{Ready}
 use Rattle.driver.specs.SendSteps.{HasWrongLength, SendAnswer, Sends, accepted_by, loads_to_free, with_transmit_slots}
 use Rattle.driver.specs.declared.transmit.SendError.TheVariants.{RingFull, TooLong, TooShort}
 use Rattle.packet_socket.specs.HostActs.{CallStages, IsOfDriver, MovesFrames, OnlyLastWrites, OverBus, PassesStages, accesses_in}
@@ -25,7 +25,7 @@ use Rattle.packet_socket.specs.HostEffects.{AreLeft, IsSendable, SendEffect}
 use Rattle.packet_socket.specs.HostState.{HostState}
 use Rattle.packet_socket.proofs.DriversAccesses.{frees-last, frees-of_driver, sends-last, sends-of_driver}
 use Rattle.packet_socket.proofs.DriverActs.{driver-acts, last-stage, makes-none, stage}
-use Rattle.bus.proofs.DriverAccesses.{follows-join}
+use Rattle.adapter.proofs.DriverAccesses.{follows-join}
 use Rattle.packet_socket.proofs.Intervals.{with_driver}
 
 -- A call that changes only the outstanding transmit slots

@@ -6,9 +6,9 @@ use Rattle.std.specs.Option.{is_some}
 use Rattle.std.proofs.lemmas.List.{length-map}
 use Rattle.std.proofs.lemmas.List.Elements.{filter_passes}
 use Rattle.std.proofs.lemmas.List.Sums.{sum_by-cons}
-use Rattle.rx_engine.specs.Addresses.{ether_type}
-use Rattle.bus.proofs.Lists.{all-head, all-tail, all-unmapped}
-use Rattle.bus.specs.DriverState.{HandedOut, frame_of}
+use Rattle.rx_filter.specs.Addresses.{ether_type}
+use Rattle.adapter.proofs.Lists.{all-head, all-tail, all-unmapped}
+use Rattle.adapter.specs.DriverState.{HandedOut, frame_of}
 use Rattle.driver.specs.HandlerSteps.{IsSublist, part_none, part_with, part_without}
 use Rattle.driver.specs.Parts.{joined_frames, received_of}
 use Rattle.driver.specs.declared.receiver.Received.{Received}

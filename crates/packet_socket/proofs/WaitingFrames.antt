@@ -6,11 +6,11 @@ use Rattle.dma_memory.specs.HostMemory.{bytes_at}
 use Rattle.dma_memory.specs.Laws.{length-bytes_at}
 use Rattle.dma_memory.specs.Layout.{Counts, receive_buffer_bytes}
 use Rattle.adapter.specs.World.{World}
-use Rattle.bus.proofs.Lists.{all-head, all-left, all-none, all-right, all-tail, all-unmapped, map-same}
-use Rattle.bus.proofs.Buffers.{buffer-lies}
-use Rattle.bus.proofs.Owners.{all-copies, elsewhere-number}
-use Rattle.bus.specs.DriverState.{HandedOut, buffer_at, frame_of, holding, piece_numbers}
-use Rattle.bus.specs.ReadyDrivers.{Stands}
+use Rattle.adapter.proofs.Lists.{all-head, all-left, all-none, all-right, all-tail, all-unmapped, map-same}
+use Rattle.adapter.proofs.Buffers.{buffer-lies}
+use Rattle.adapter.proofs.Owners.{all-copies, elsewhere-number}
+use Rattle.adapter.specs.DriverState.{HandedOut, buffer_at, frame_of, holding, piece_numbers}
+use Rattle.adapter.specs.ReadyDrivers.{Stands}
 use Rattle.driver.specs.Parts.{IsWholeFrame, part_of, parts_of}
 use Rattle.driver.specs.declared.parts.Part.{Part}
 use Rattle.driver.specs.declared.receiver.Received.{Received}

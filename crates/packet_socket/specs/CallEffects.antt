@@ -1,6 +1,6 @@
 -- Calls of a host as plain data, their answers, and their effects (our choice).
 use Rattle.std.specs.Prelude.{⊤, ◌≡◌, [], ℕ, List, None, Ok, Option, Result, Some, drop}
-use Rattle.bus.specs.declared.bus.Bus.{Ghosts}
+use Rattle.adapter.specs.bus_types.bus.Bus.{Ghosts}
 use Rattle.driver.specs.Parts.{IsFrameSize}
 use Rattle.driver.specs.SendSteps.{SendAnswer, accepted_by}
 use Rattle.driver.specs.declared.interrupt.Handled.{Handled}

@@ -3,13 +3,13 @@
 use Rattle.std.specs.Prelude.{⊤, ◌≡◌, ◌<◌, ◌⊎◌, ◌+◌, ◌*◌, ◌++◌, ◌∷◌, [], ℕ, Bool, true, All, List}
 use Rattle.dma_memory.specs.Layout.{Counts}
 use Rattle.adapter.specs.World.{World}
-use Rattle.adapter.specs.declared.offsets.TheConstants.{ICR, MPC, MTA, RDT, REGISTER_BYTES, TDT}
-use Rattle.rx_engine.specs.declared.filter.TheConstants.{TABLE_WORDS}
-use Rattle.bus.specs.Pasts.{Past, joined, nothing}
-use Rattle.bus.specs.declared.bus.Bus.{Ghosts}
-use Rattle.bus.specs.declared.event.Access.{Access}
-use Rattle.bus.specs.declared.event.Access.TheVariants.{Loads, Reads, Stores, Writes}
-use Rattle.bus.specs.Calls.{DriverDid, DriverInWorld, FlowsTo, FollowsWrites, GoesTo, HasNoForgottenWork, IsRefilled, driver_in}
+use Rattle.adapter.specs.model_types.offsets.TheConstants.{ICR, MPC, MTA, RDT, REGISTER_BYTES, TDT}
+use Rattle.rx_filter.specs.declared.filter.TheConstants.{TABLE_WORDS}
+use Rattle.adapter.specs.Pasts.{Past, joined, nothing}
+use Rattle.adapter.specs.bus_types.bus.Bus.{Ghosts}
+use Rattle.adapter.specs.bus_types.event.Access.{Access}
+use Rattle.adapter.specs.bus_types.event.Access.TheVariants.{Loads, Reads, Stores, Writes}
+use Rattle.adapter.specs.Calls.{DriverDid, DriverInWorld, FlowsTo, FollowsWrites, GoesTo, HasNoForgottenWork, IsRefilled, driver_in}
 use Rattle.packet_socket.specs.HostCalls.{Given, HostInterval, HostMoment, IsReadyHost, host_did, in_world}
 use Rattle.packet_socket.specs.HostState.{HostState}
 

@@ -6,16 +6,16 @@ use Rattle.std.specs.List.Sorted.{IsPermutation}
 use Rattle.dma_memory.specs.HostMemory.{bytes_at}
 use Rattle.dma_memory.specs.Layout.{Counts}
 use Rattle.dma_memory.specs.Owners.{HaveSameNumbers}
-use Rattle.rx_engine.specs.Addresses.{ether_type}
+use Rattle.rx_filter.specs.Addresses.{ether_type}
 use Rattle.adapter.specs.HostFrames.{frames_held}
 use Rattle.adapter.specs.World.{World}
-use Rattle.bus.specs.declared.bus.Bus.{Ghosts}
-use Rattle.bus.specs.Pasts.{Past}
-use Rattle.bus.specs.declared.event.Access.{Access}
-use Rattle.bus.specs.Calls.{DriverDid, DriverInWorld, FlowsTo, GoesTo, IsRefilled, Moment, driver_did, driver_in}
-use Rattle.bus.specs.Calls.{stores_from, tail_write}
-use Rattle.bus.specs.DriverState.{DriverState, HandedOut, buffer_at, frame_of, holding, next_receive, piece_numbers, with_owners}
-use Rattle.bus.specs.ReadyDrivers.{ReadyWith}
+use Rattle.adapter.specs.bus_types.bus.Bus.{Ghosts}
+use Rattle.adapter.specs.Pasts.{Past}
+use Rattle.adapter.specs.bus_types.event.Access.{Access}
+use Rattle.adapter.specs.Calls.{DriverDid, DriverInWorld, FlowsTo, GoesTo, IsRefilled, Moment, driver_did, driver_in}
+use Rattle.adapter.specs.Calls.{stores_from, tail_write}
+use Rattle.adapter.specs.DriverState.{DriverState, HandedOut, buffer_at, frame_of, holding, next_receive, piece_numbers, with_owners}
+use Rattle.adapter.specs.ReadyDrivers.{ReadyWith}
 use Rattle.driver.specs.HandlerSteps.{AreFramesOf, AreOfOneFrame, IsTaken, RunOfSlots}
 use Rattle.driver.specs.Growth.{GrowsBy}
 use Rattle.driver.specs.HandlerSteps.{ServesRing}
@@ -197,7 +197,7 @@ pub record LeavesQueue (h h' : HostState) (socket size : ℕ) (received : Receiv
   -- the count of unclaimed frames is the same
   pub unclaimed : h'.unclaimed ≡ h.unclaimed
   -- `size` is the length of the entry
-  pub long : size ≡ received.length
+  pub long : size ≡ received.len
 
 -- The accesses of `recv`: the frame is loaded, piece by piece, and then slots are offered with the buffers `offered`.
 -- The frame's buffers may be among these buffers.

@@ -6,19 +6,19 @@ use Rattle.std.specs.List.{Contains, concat}
 use Rattle.registers.specs.Bits.{HasBit, Meet}
 use Rattle.registers.specs.Places.{rxt0}
 use Rattle.descriptors.specs.Frames.{longest_frame, shortest_sent}
-use Rattle.rx_engine.specs.Addresses.{IsGroup}
-use Rattle.rx_engine.specs.GroupLists.{Removes}
+use Rattle.rx_filter.specs.Addresses.{IsGroup}
+use Rattle.rx_filter.specs.GroupLists.{Removes}
 use Rattle.adapter.specs.HostFrames.{frames_to_send}
 use Rattle.adapter.specs.Slots.{written_back_slots}
 use Rattle.adapter.specs.World.{World}
-use Rattle.adapter.specs.declared.offsets.TheConstants.{ICR}
+use Rattle.adapter.specs.model_types.offsets.TheConstants.{ICR}
 use Rattle.bring_up.specs.WrittenRegisters.{handled_causes}
 use Rattle.bring_up.specs.declared.config.TheConstants.{MOST_GROUPS}
-use Rattle.bus.specs.Pasts.{Past}
-use Rattle.bus.specs.declared.event.Access.{Access}
-use Rattle.bus.specs.declared.event.Access.TheVariants.{Reads}
-use Rattle.bus.specs.Calls.{HasNoForgottenWork, driver_in, frames_ended, send_accesses}
-use Rattle.bus.specs.DriverState.{HandedOut, next_receive, piece_numbers, with_owners}
+use Rattle.adapter.specs.Pasts.{Past}
+use Rattle.adapter.specs.bus_types.event.Access.{Access}
+use Rattle.adapter.specs.bus_types.event.Access.TheVariants.{Reads}
+use Rattle.adapter.specs.Calls.{HasNoForgottenWork, driver_in, frames_ended, send_accesses}
+use Rattle.adapter.specs.DriverState.{HandedOut, next_receive, piece_numbers, with_owners}
 use Rattle.bring_up.specs.Groups.{HasTable, SetsTable, with_groups}
 use Rattle.bring_up.specs.declared.groups.GroupError.{GroupError}
 use Rattle.bring_up.specs.declared.groups.GroupError.TheVariants.{GroupsFull, Joined, NotGroup, NotJoined}

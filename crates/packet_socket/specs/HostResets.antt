@@ -1,6 +1,6 @@
 -- How a host resets its adapter (our choice).
 use Rattle.std.specs.Prelude.{◌≡◌, ℕ, Bool}
-use Rattle.bus.specs.declared.bus.Bus.{Ghosts}
+use Rattle.adapter.specs.bus_types.bus.Bus.{Ghosts}
 use Rattle.driver.specs.Resetting.{Resets}
 use Rattle.packet_socket.specs.HostCalls.{HostMoment, HostReady, driver_at, waiting_frames}
 

@@ -3,7 +3,7 @@ use Rattle.std.specs.Prelude.{◌≡◌, ◌++◌, ◌∷◌, ℕ, List, [], len
 use Rattle.driver.specs.declared.receiver.Received.{Received}
 use Rattle.bring_up.specs.declared.config.Config.{Config}
 use Rattle.driver.specs.Initialisation.{IsFresh}
-use Rattle.bus.specs.DriverState.{DriverState, owners}
+use Rattle.adapter.specs.DriverState.{DriverState, owners}
 use Rattle.driver.specs.Parts.{buffers_of}
 use Rattle.packet_socket.specs.declared.socket_kind.SocketKind.{SocketKind}
 

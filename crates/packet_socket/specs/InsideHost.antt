@@ -1,7 +1,7 @@
 -- How `Host` stores its state (our choice).
 use Rattle.std.specs.Prelude.{◌≡◌, ◌++◌, length}
 use Rattle.dma_memory.specs.Owners.{HasNoSecondOwner}
-use Rattle.bus.specs.DriverState.{DriverState, owners}
+use Rattle.adapter.specs.DriverState.{DriverState, owners}
 use Rattle.driver.specs.Parts.{AreFrames, buffers_of}
 use Rattle.packet_socket.specs.HostState.{HostState, SocketsState, all_of}
 use Rattle.packet_socket.specs.declared.host.Host.TheInside.{Inside}

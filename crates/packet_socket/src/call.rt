@@ -2,15 +2,14 @@
 
 ghost use Rattle.std.specs.Prelude.{◌≤◌};
 ghost use Rattle.dma_memory.specs.Layout.{size_of};
-ghost use Rattle.bus.specs.Keeping.{Keeps};
+ghost use Rattle.adapter.specs.Keeping.{Keeps};
 ghost use Rattle.packet_socket.specs.CallEffects.{CallsBy, IsLegalAnswer, KeepsRest, answer_in, call_request};
 ghost use Rattle.packet_socket.specs.HostCalls.{host_at};
 
 use crate::Host;
 use crate::receive::RecvError;
-use bring_up::GroupError;
-use bus::Bus;
-use driver::{Handled, SendError};
+use adapter::Bus;
+use driver::{GroupError, Handled, SendError};
 
 /// A call of a host, as a value.
 #[derive(Clone, Copy, Debug, Drop)]

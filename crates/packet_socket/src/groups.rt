@@ -3,10 +3,10 @@
 ghost use Rattle.std.specs.Prelude.{◌≡◌, ◌≢◌, ◌<◌, ◌↔◌, ◌++◌, ◌∷◌, [], Err, length};
 ghost use Rattle.std.specs.Result.{OnErr, OnOk};
 ghost use Rattle.std.specs.List.{Contains};
-ghost use Rattle.rx_engine.specs.Addresses.{IsGroup};
-ghost use Rattle.rx_engine.specs.GroupLists.{Removes};
+ghost use Rattle.rx_filter.specs.Addresses.{IsGroup};
+ghost use Rattle.rx_filter.specs.GroupLists.{Removes};
 ghost use Rattle.bring_up.specs.declared.config.TheConstants.{MOST_GROUPS};
-ghost use Rattle.bus.specs.Keeping.{Keeps};
+ghost use Rattle.adapter.specs.Keeping.{Keeps};
 ghost use Rattle.bring_up.specs.Groups.{HasNumber};
 ghost use Rattle.bring_up.specs.declared.groups.GroupError.TheVariants.{GroupsFull, Joined, NotGroup, NotJoined};
 ghost use Rattle.packet_socket.specs.HostActs.{CallsOver};
@@ -14,8 +14,8 @@ ghost use Rattle.packet_socket.specs.HostCalls.{host_at};
 ghost use Rattle.packet_socket.specs.HostEffects.{JoinEffect, LeaveEffect, with_joined};
 
 use crate::Host;
-use bring_up::GroupError;
-use bus::Bus;
+use adapter::Bus;
+use driver::GroupError;
 
 impl Host {
     /// Joins a multicast group by [`Driver::join`](driver::Driver::join), so that frames to the group pass the receive

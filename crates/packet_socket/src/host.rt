@@ -8,8 +8,8 @@ ghost use Rattle.bring_up.specs.Configuration.{IsValidIn};
 ghost use Rattle.bring_up.specs.Device.{IsBeforeAccess};
 ghost use Rattle.bring_up.specs.declared.init_error.InitError.TheVariants as InitError;
 ghost use Rattle.registers.specs.Counting.{greatest_count};
-ghost use Rattle.bus.specs.Keeping.{Keeps};
-ghost use Rattle.bus.specs.DriverState.{owners};
+ghost use Rattle.adapter.specs.Keeping.{Keeps};
+ghost use Rattle.adapter.specs.DriverState.{owners};
 ghost use Rattle.driver.specs.Initialisation.{Initialises, RefusesInit};
 ghost use Rattle.driver.specs.SendSteps.{HasWrongLength, accepted_by, with_transmit_slots};
 ghost use Rattle.driver.specs.Parts.{AreFrames, buffers_of};
@@ -22,11 +22,10 @@ ghost use Rattle.packet_socket.specs.InsideHost.{IsConsistentHost, host_inside};
 
 use crate::SocketKind;
 use crate::sockets::{MOST_SOCKETS, Sockets};
+use adapter::Bus;
 use arrayvec::ArrayVec;
-use bring_up::{Config, InitError};
-use bus::Bus;
 use dma_memory::Layout;
-use driver::{Driver, SendError};
+use driver::{Config, Driver, InitError, SendError};
 use std::alloc::Global;
 use std::marker::Model;
 

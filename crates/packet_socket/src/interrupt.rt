@@ -2,14 +2,14 @@
 
 ghost use Rattle.std.specs.Prelude.{◌≡◌, ◌≤◌, []};
 ghost use Rattle.dma_memory.specs.Layout.{size_of};
-ghost use Rattle.bus.specs.Keeping.{Keeps};
+ghost use Rattle.adapter.specs.Keeping.{Keeps};
 ghost use Rattle.driver.specs.HandlerSteps.{IfHandled, IfNotMine, OnlyReceives};
 ghost use Rattle.packet_socket.specs.HostActs.{CallsOver};
 ghost use Rattle.packet_socket.specs.HostCalls.{HostServes, host_at};
 ghost use Rattle.packet_socket.specs.HostEffects.{InterruptEffect};
 
 use crate::Host;
-use bus::Bus;
+use adapter::Bus;
 use driver::Handled;
 
 impl Host {

@@ -2,8 +2,8 @@
 
 ghost use Rattle.std.specs.Prelude.{Bool};
 ghost use Rattle.adapter.specs.World.{World};
-ghost use Rattle.bus.specs.Law.{Happens};
-ghost use Rattle.bus.specs.Pasts.{Past, joined};
+ghost use Rattle.adapter.specs.Law.{Happens};
+ghost use Rattle.adapter.specs.Pasts.{Past, joined};
 ghost use Rattle.packet_socket.specs.HostCalls.{HostDid, HostFlowsTo, HostGoesTo, HostInWorld, HostReadyWith, did_both};
 ghost use Rattle.packet_socket.specs.HostCalls.{did_nothing, in_world};
 ghost use Rattle.packet_socket.specs.HostState.{HostState};

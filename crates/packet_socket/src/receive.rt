@@ -2,7 +2,7 @@
 
 ghost use Rattle.std.specs.Prelude.{◌≡◌, ◌↔◌, ◌≤◌, ◌<◌, [], Err, IfErr, IfOk, length};
 ghost use Rattle.dma_memory.specs.Layout.{size_of};
-ghost use Rattle.bus.specs.Keeping.{Keeps};
+ghost use Rattle.adapter.specs.Keeping.{Keeps};
 ghost use Rattle.packet_socket.specs.HostActs.{CallsOver};
 ghost use Rattle.packet_socket.specs.HostCalls.{Returns, host_at};
 ghost use Rattle.packet_socket.specs.HostEffects.{RecvEffect, frame_answer, given_by};
@@ -10,7 +10,7 @@ ghost use Rattle.packet_socket.specs.HostState.{queue_at};
 ghost use Rattle.packet_socket.specs.declared.receive.RecvError.TheVariants as RecvError;
 
 use crate::Host;
-use bus::Bus;
+use adapter::Bus;
 use thiserror::Error;
 
 /// The reason why no frame is returned.

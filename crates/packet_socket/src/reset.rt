@@ -2,20 +2,20 @@
 
 ghost use Rattle.std.specs.Prelude.{◌≡◌, ◌≤◌, Bool};
 ghost use Rattle.dma_memory.specs.Layout.{size_of};
-ghost use Rattle.bus.specs.Keeping.{Keeps};
+ghost use Rattle.adapter.specs.Keeping.{Keeps};
 ghost use Rattle.packet_socket.specs.HostCalls.{IsReadyHost, host_at};
 ghost use Rattle.packet_socket.specs.HostResets.{HostResets};
 
 use crate::Host;
-use bus::Bus;
+use adapter::Bus;
 
 impl Host {
     /// Returns the place of the oldest outstanding slot of the receive ring, or of the next receive slot to be offered
     /// if no slot is outstanding. A reset drops the received frames in the slots from this place on.
-    pub fn oldest_receive(&self) -> u16
+    pub fn oldest(&self) -> u16
         ensures { result ≡ self.now.driver.oldest_receive }
     {
-        self.driver.oldest_receive()
+        self.driver.oldest()
     }
 
     /// Resets the adapter by [`Driver::reset`](driver::Driver::reset). The frames that are queued for sockets remain

@@ -7,12 +7,12 @@ use Rattle.std.proofs.lemmas.List.{length-replicate, get_or-replicate}
 use Rattle.std.proofs.lemmas.Option.{none-some, same_Some}
 use Rattle.registers.specs.Bits.{HasBit, field, union}
 use Rattle.registers.specs.ReceiveControl.{group_offset_of, shift_of}
-use Rattle.rx_engine.specs.Addresses.{IsAddress, low_word, high_word, group_number}
-use Rattle.rx_engine.specs.Passing.{Passes}
-use Rattle.rx_engine.specs.Registers.{FilterRegisters, HasEntry, HasTableBit, filter_of}
-use Rattle.rx_engine.specs.Writing.{with_number}
-use Rattle.rx_engine.specs.FilterLaws.{SameSets, SameSets-sym, Passes-same, HasEntry-zeros, HasEntry-added, HasTableBit-zeros}
-use Rattle.rx_engine.specs.FilterLaws.{HasTableBit-with_number}
+use Rattle.rx_filter.specs.Addresses.{IsAddress, low_word, high_word, group_number}
+use Rattle.rx_filter.specs.Passing.{Passes}
+use Rattle.rx_filter.specs.Registers.{FilterRegisters, HasEntry, HasTableBit, filter_of}
+use Rattle.rx_filter.specs.Writing.{with_number}
+use Rattle.rx_filter.specs.Laws.{SameSets, SameSets-sym, Passes-same, HasEntry-zeros, HasEntry-added, HasTableBit-zeros}
+use Rattle.rx_filter.specs.Laws.{HasTableBit-with_number}
 use Rattle.adapter.specs.Registers.{filter_at_reset}
 use Rattle.pcap_bench.specs.declared.filter.PassFilter.{PassFilter}
 use Rattle.pcap_bench.specs.Choosing.{mode_bits, mode_for, with_address, with_bit, with_group_bit, with_tables, with_vlan_bit}

@@ -13,8 +13,8 @@ use Rattle.rx_engine.specs.Finishing.{finished_bytes}
 use Rattle.rx_engine.specs.Moving.{next_piece}
 use Rattle.rx_engine.specs.declared.arrival.Fate.{Fate}
 use Rattle.rx_engine.specs.declared.arrival.Fate.TheVariants.{Stored}
-use Rattle.adapter.specs.declared.ring.RingRegisters.{RingRegisters}
-use Rattle.adapter.specs.declared.outcome.Outcome.TheVariants.{Moved, Done}
+use Rattle.adapter.specs.model_types.ring.RingRegisters.{RingRegisters}
+use Rattle.adapter.specs.model_types.outcome.Outcome.TheVariants.{Moved, Done}
 use Rattle.adapter.specs.Receiving.{after_arrive, after_data, after_done, memory_after_data_step, memory_after_done_step, is_last_piece}
 use Rattle.adapter.specs.Receiving.{CanMovePiece}
 use Rattle.adapter.specs.State.{AdapterState}

@@ -8,11 +8,11 @@ use Rattle.std.proofs.lemmas.Nat.{and_mask, or_disjoint}
 use Rattle.std.proofs.lemmas.Nat.Bits.{and_pow}
 use Rattle.registers.specs.Bits.{union, IsSubset}
 use Rattle.registers.specs.Laws.{IsSubset-union, IsSubset-places}
-use Rattle.rx_engine.specs.Addresses.{IsAddress, low_word, high_word}
-use Rattle.rx_engine.specs.Registers.{address_high_mask}
-use Rattle.adapter.specs.declared.register.Register.{Register}
-use Rattle.adapter.specs.declared.register.Register.TheVariants.{Vet, Rctl, Receive, Mta, Ral, Rah, Vfta}
-use Rattle.adapter.specs.declared.register.RingRegister.TheVariants.{BaseLow, BaseHigh, Length, Head, Tail}
+use Rattle.rx_filter.specs.Addresses.{IsAddress, low_word, high_word}
+use Rattle.rx_filter.specs.Registers.{address_high_mask}
+use Rattle.adapter.specs.model_types.register.Register.{Register}
+use Rattle.adapter.specs.model_types.register.Register.TheVariants.{Vet, Rctl, Receive, Mta, Ral, Rah, Vfta}
+use Rattle.adapter.specs.model_types.register.RingRegister.TheVariants.{BaseLow, BaseHigh, Length, Head, Tail}
 use Rattle.adapter.specs.Registers.{after_reset, after_write, by_row, is_reset, left_by_write, with_register}
 use Rattle.adapter.specs.State.{AdapterState}
 use Rattle.adapter.specs.Table.{IsInTable, row_of}

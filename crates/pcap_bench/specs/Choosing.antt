@@ -1,10 +1,10 @@
 -- The registers of the receive filter for the options of a pass. (Intel's manual, "13.5 Filter Registers" and "13.4.22 Receive
 -- Control"; the meaning of the options: our choice)
 use Rattle.std.specs.Prelude.{◌+◌, ◌/◌, ◌%◌, ◌^◌, ◌&&◌, ℕ, List, Bool, true, false, Option, Some, None, is_none, is_some, slice_set}
-use Rattle.rx_engine.specs.Addresses.{low_word, high_word, group_number}
-use Rattle.rx_engine.specs.Registers.{FilterRegisters}
+use Rattle.rx_filter.specs.Addresses.{low_word, high_word, group_number}
+use Rattle.rx_filter.specs.Registers.{FilterRegisters}
 use Rattle.pcap_bench.specs.declared.filter.PassFilter.{PassFilter}
-use Rattle.rx_engine.specs.declared.filter.TheConstants.{VLAN_TYPE}
+use Rattle.rx_filter.specs.declared.filter.TheConstants.{VLAN_TYPE}
 use Rattle.registers.specs.Places.{alone, rctl_bam, rctl_en, rctl_mpe, rctl_upe, rctl_vfe}
 
 -- RAL(0) and RAH(0): the address, with AV, or 0 if no address is given

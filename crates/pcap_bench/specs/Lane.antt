@@ -9,7 +9,7 @@ use Rattle.registers.specs.Places.{rctl_bsex, rctl_bsize, rctl_en}
 use Rattle.rx_engine.specs.Descriptors.{descriptor_at, named_address}
 use Rattle.rx_engine.specs.Receiver.{new_receiver}
 use Rattle.rx_engine.specs.Finishing.{IsFinished}
-use Rattle.adapter.specs.declared.ring.RingRegisters.{RingRegisters}
+use Rattle.adapter.specs.model_types.ring.RingRegisters.{RingRegisters}
 use Rattle.adapter.specs.State.{AdapterState}
 
 -- the number of descriptors of the ring

@@ -1,9 +1,9 @@
 -- The receive filter that the options of a pass ask for. (our choice)
 use Rattle.std.specs.Prelude.{◌≡◌, ◌≤◌, ℕ, List, Some, None, IfSome}
-use Rattle.rx_engine.specs.Addresses.{group_number}
-use Rattle.rx_engine.specs.Passing.{ReceiveFilter, Passes}
+use Rattle.rx_filter.specs.Addresses.{group_number}
+use Rattle.rx_filter.specs.Passing.{ReceiveFilter, Passes}
 use Rattle.pcap_bench.specs.declared.filter.PassFilter.{PassFilter}
-use Rattle.rx_engine.specs.declared.filter.TheConstants.{VLAN_TYPE}
+use Rattle.rx_filter.specs.declared.filter.TheConstants.{VLAN_TYPE}
 
 -- neither an address nor a group is given, so the filter accepts every address
 abbrev pub IsOpen : PassFilter → Type 0

@@ -4,7 +4,7 @@ use Rattle.std.specs.Prelude.{◌+◌, ◌++◌, ℕ, List, [], ◌∷◌, lengt
 use Rattle.std.specs.List.{flat_map}
 use Rattle.hex.specs.Hex.{encode_lower}
 use Rattle.pcap_trace.specs.declared.trace.Trace.{Trace}
-use Rattle.rx_engine.specs.Addresses.{destination}
+use Rattle.rx_filter.specs.Addresses.{destination}
 use Rattle.text.specs.Fields.{labelled}
 use Rattle.pcap_bench.specs.Printing.{cut_word}
 

@@ -1,7 +1,7 @@
 //! The registers of the receive filter for the options of `pass`.
 ghost use Rattle.std.specs.Prelude.{◌≡◌, ◌+◌, ◌*◌, ◌/◌, ◌%◌, ◌^◌, ◌≤◌, IfSome};
 ghost use Rattle.adapter.specs.Registers.{after_write};
-ghost use Rattle.rx_engine.specs.Addresses.{IsAddress};
+ghost use Rattle.rx_filter.specs.Addresses.{IsAddress};
 ghost use Rattle.pcap_bench.specs.Choosing.{with_address, with_group_bit, with_tables, with_vlan_bit, mode_for};
 ghost use Rattle.pcap_bench.specs.Options.{HasVlanNumber};
 
@@ -10,7 +10,7 @@ use adapter::Adapter;
 use adapter::offsets::{MTA, RAL, REGISTER_BYTES, VET, VFTA};
 use bitflags::Flags;
 use registers::{GroupOffset, Rctl};
-use rx_engine::{AddressWords, TableBit, VLAN_TYPE, hash_of};
+use rx_filter::{AddressWords, TableBit, VLAN_TYPE, hash_of};
 
 /// The offset of RAH(0), which follows RAL(0).
 const RAH: u32 = RAL + REGISTER_BYTES;

@@ -3,12 +3,12 @@ ghost use Rattle.std.specs.Prelude.{◌≡◌, ◌↔◌, ◌+◌, ◌*◌, ◌%
 ghost use Rattle.descriptors.specs.Frames.{padded, is_sendable, IsLegal};
 ghost use Rattle.descriptors.specs.RxStatus.{status_bits};
 ghost use Rattle.rx_engine.specs.Descriptors.{descriptor_at};
-ghost use Rattle.rx_engine.specs.FilterLaws.{SameSets};
-ghost use Rattle.rx_engine.specs.Passing.{Passes};
-ghost use Rattle.rx_engine.specs.Registers.{filter_of};
+ghost use Rattle.rx_filter.specs.Laws.{SameSets};
+ghost use Rattle.rx_filter.specs.Passing.{Passes};
+ghost use Rattle.rx_filter.specs.Registers.{filter_of};
 ghost use Rattle.adapter.specs.Receiving.{after_data, after_done, memory_after_data_step, memory_after_done_step};
 ghost use Rattle.adapter.specs.Receiving.{is_last_piece, CanMovePiece, HasFrameAndDescriptor};
-ghost use Rattle.adapter.specs.declared.outcome.Outcome.TheVariants.{Moved, Done};
+ghost use Rattle.adapter.specs.model_types.outcome.Outcome.TheVariants.{Moved, Done};
 ghost use Rattle.pcap_bench.specs.Lane.{ring_at, slot_bytes, slot_desc, HasFrame, IsWaiting};
 ghost use Rattle.pcap_bench.specs.Options.{filter_for, HasVlanNumber};
 
@@ -20,7 +20,8 @@ use adapter::{Adapter, Fate, StepKind};
 use bitflags::Flags;
 use descriptors::{RX_DESC_BYTES, RxDesc, SHORTEST_LEGAL};
 use dma_memory::{HostMemory, Layout};
-use registers::{Image, Link};
+use eeprom::Image;
+use mdic_phy::Link;
 use std::alloc::{AllocError, Global};
 use std::marker::Model;
 
@@ -82,8 +83,8 @@ fn finish_frame(adapter: &mut Adapter, memory: &mut HostMemory)
         (after_data Moved adapter.old) }
 {
     // The preconditions make both outcomes known, so they are dropped. Receive steps don't use the wire (`false`).
-    let _ = adapter.step(StepKind::RxData, memory, false);
-    let _ = adapter.step(StepKind::RxDone, memory, false);
+    let _ = adapter.step_unframed(StepKind::RxData, memory, false);
+    let _ = adapter.step_unframed(StepKind::RxDone, memory, false);
 }
 
 impl ReceiveLane {

@@ -3,8 +3,8 @@ ghost use Rattle.std.specs.Prelude.{◌≡◌, ◌<◌, ◌≤◌, length, IfOk,
 ghost use Rattle.std.specs.Io.KnownBytes.{Appends, append_known};
 ghost use Rattle.pcap_trace.specs.Devices.{AppendsFront, CountsFailures, Grows};
 ghost use Rattle.pcap_trace.specs.Format.{file_header, packet_of};
-ghost use Rattle.rx_engine.specs.Passing.{Passes};
-ghost use Rattle.rx_engine.specs.Registers.{filter_of};
+ghost use Rattle.rx_filter.specs.Passing.{Passes};
+ghost use Rattle.rx_filter.specs.Registers.{filter_of};
 ghost use Rattle.pcap_bench.specs.Options.{HasVlanNumber, KeptBy};
 ghost use Rattle.pcap_bench.specs.Passing.{WritesKept, StopsAmong, StopsBy};
 ghost use Rattle.pcap_bench.specs.Lane.{slot_bytes, HasFrame, IsWaiting};

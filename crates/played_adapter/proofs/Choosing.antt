@@ -4,10 +4,10 @@ use Rattle.std.proofs.Common.{true}
 use Rattle.std.proofs.lemmas.Bool.Decides.{nat_tests}
 use Rattle.rand_pcg.specs.Lcg.{Lcg}
 use Rattle.rand_pcg.specs.Pcg.{pcg32}
-use Rattle.bus.specs.Machines.{MachineState, after_event}
-use Rattle.bus.specs.Trails.{Occurs}
-use Rattle.bus.specs.declared.event.Access.{Access}
-use Rattle.bus.specs.declared.event.Event.TheVariants.{Arrives}
+use Rattle.adapter.specs.Machines.{MachineState, after_event}
+use Rattle.adapter.specs.Trails.{Occurs}
+use Rattle.adapter.specs.bus_types.event.Access.{Access}
+use Rattle.adapter.specs.bus_types.event.Event.TheVariants.{Arrives}
 use Rattle.rx_engine.specs.declared.arrival.Fate.{Fate}
 use Rattle.played_adapter.specs.Draws.{chosen_below, drawn_count}
 use Rattle.played_adapter.specs.Order.{ComposesHeard, Tells}

@@ -6,8 +6,8 @@ use Rattle.std.specs.Prelude.{All, sum}
 use Rattle.std.proofs.lemmas.Bool.Decides.{nat_tests}
 use Rattle.std.proofs.lemmas.List.Elements.{All-append, All-cons, All-nil}
 use Rattle.std.proofs.lemmas.List.Sums.{sum_by-append}
-use Rattle.adapter.specs.declared.outcome.Outcome.{Outcome}
-use Rattle.adapter.specs.declared.outcome.Outcome.TheVariants.{Took, Put, WireFull, Part, Moved, Done, Delivered, Ticked, Nothing, Fault}
+use Rattle.adapter.specs.model_types.outcome.Outcome.{Outcome}
+use Rattle.adapter.specs.model_types.outcome.Outcome.TheVariants.{Took, Put, WireFull, Part, Moved, Done, Delivered, Ticked, Nothing, Fault}
 use Rattle.played_adapter.specs.Playing.{Cycle, Settles, with_last}
 use Rattle.played_adapter.specs.Order.{ComposesHeard, InOrder, Tells}
 use Rattle.std.specs.Int.{from_bool}

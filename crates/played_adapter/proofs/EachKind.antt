@@ -1,7 +1,7 @@
 -- A fact about each kind of steps, from the facts about the six kinds.
 use Rattle.std.proofs.Common.{Bool}
-use Rattle.adapter.specs.declared.step.StepKind.{StepKind}
-use Rattle.adapter.specs.declared.step.StepKind.TheVariants.{EepromTick, PhyTick, RxData, RxDone, TxPut, TxTake}
+use Rattle.adapter.specs.model_types.step.StepKind.{StepKind}
+use Rattle.adapter.specs.model_types.step.StepKind.TheVariants.{EepromTick, PhyTick, RxData, RxDone, TxPut, TxTake}
 
 -- the argument for this kind of steps
 abbrev pub for_kind : (take put moves done eeprom phy : Bool) → StepKind → Bool

@@ -1,10 +1,10 @@
 -- Events that happened and were told, from their parts.
 use Rattle.std.proofs.Common.{◌≡◌, ◌++◌, ◌∙◌, ◌∷◌, [], ℕ, Bool, List, ap, false, if◌then◌else◌, length, refl, subst, sym, true}
-use Rattle.bus.specs.Machines.{MachineState, after_event}
-use Rattle.bus.specs.Trails.{Occurs}
-use Rattle.bus.specs.declared.event.Access.{Access}
-use Rattle.bus.specs.declared.event.Event.{Event}
-use Rattle.bus.specs.declared.event.Event.TheVariants.{Accesses}
+use Rattle.adapter.specs.Machines.{MachineState, after_event}
+use Rattle.adapter.specs.Trails.{Occurs}
+use Rattle.adapter.specs.bus_types.event.Access.{Access}
+use Rattle.adapter.specs.bus_types.event.Event.{Event}
+use Rattle.adapter.specs.bus_types.event.Event.TheVariants.{Accesses}
 use Rattle.played_adapter.specs.Order.{ComposesHeard, Tells}
 use Rattle.played_adapter.specs.Playing.{Accessed, AnswersLoad, HappensTold, HappensAlone, PlaysAll, Prepares}
 use Rattle.played_adapter.specs.Playing.{ReportsLine, Ticks, after, has_bytes, kinds_of_ticks, line_change}

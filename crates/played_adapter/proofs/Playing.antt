@@ -2,10 +2,10 @@
 use Rattle.std.proofs.Common.{◌≡◌, ◌∙◌, ◌+◌, ◌++◌, ◌∷◌, ◌≤◌, [], ℕ, Bool, List, true, ap, arith, cond, length, nat_le, subst, sym}
 use Rattle.std.proofs.lemmas.Bool.Decides.{nat_tests}
 use Rattle.rand_pcg.specs.Lcg.{Lcg}
-use Rattle.adapter.specs.declared.outcome.Outcome.{Outcome}
-use Rattle.adapter.specs.declared.step.StepKind.{StepKind}
-use Rattle.bus.proofs.Trails.{event_happens}
-use Rattle.bus.specs.declared.event.Event.TheVariants.{Arrives}
+use Rattle.adapter.specs.model_types.outcome.Outcome.{Outcome}
+use Rattle.adapter.specs.model_types.step.StepKind.{StepKind}
+use Rattle.adapter.proofs.Trails.{event_happens}
+use Rattle.adapter.specs.bus_types.event.Event.TheVariants.{Arrives}
 use Rattle.played_adapter.specs.Draws.{drawn_count}
 use Rattle.played_adapter.specs.Order.{InOrder, Times}
 use Rattle.played_adapter.specs.Choices.{drawn}

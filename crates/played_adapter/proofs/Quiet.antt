@@ -6,7 +6,7 @@ use Rattle.played_adapter.specs.Playing.{Accessed, DrawsChoice, HappensAlone, In
 use Rattle.played_adapter.specs.Playing.{PlaysStepOfKind, PlaysScheduled, Prepares, kinds_of_ticks}
 use Rattle.played_adapter.specs.Playing.{access_counted, due}
 use Rattle.played_adapter.specs.Told.{Told}
-use Rattle.bus.specs.declared.event.Access.{Access}
+use Rattle.adapter.specs.bus_types.event.Access.{Access}
 use Rattle.played_adapter.specs.declared.player.PlayedAdapter.{PlayedAdapter}
 use Rattle.played_adapter.specs.declared.scheduling.ScheduledStep.{ScheduledStep}
 

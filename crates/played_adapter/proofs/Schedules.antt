@@ -4,7 +4,7 @@ use Rattle.std.proofs.Common.{drop, nat_le}
 use Rattle.std.proofs.Common.{refl, slice_get, subst, sym}
 use Rattle.std.proofs.lemmas.Bool.Decides.{nat_tests}
 use Rattle.std.proofs.lemmas.List.{append-nil}
-use Rattle.adapter.specs.declared.outcome.Outcome.{Outcome}
+use Rattle.adapter.specs.model_types.outcome.Outcome.{Outcome}
 use Rattle.played_adapter.specs.Order.{ComposesHeard, InOrder, Tells}
 use Rattle.played_adapter.specs.Playing.{PlaysScheduled, Steps, due, due_in, without_next}
 use Rattle.played_adapter.specs.Told.{Told}

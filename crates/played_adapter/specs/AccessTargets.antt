@@ -3,8 +3,8 @@ use Rattle.access_names.specs.Targets.{memory_target_in}
 use Rattle.access_names.specs.declared.target.Target.{Target}
 use Rattle.access_names.specs.declared.target.Target.TheVariants.{Register}
 use Rattle.adapter.specs.State.{AdapterState}
-use Rattle.bus.specs.declared.event.Access.{Access}
-use Rattle.bus.specs.declared.event.Access.TheVariants.{Loads, Reads, Stores, Writes}
+use Rattle.adapter.specs.bus_types.event.Access.{Access}
+use Rattle.adapter.specs.bus_types.event.Access.TheVariants.{Loads, Reads, Stores, Writes}
 use Rattle.step_schedules.specs.declared.deviation.Before.{Before}
 use Rattle.step_schedules.specs.declared.deviation.Before.TheVariants.{Read, Write}
 

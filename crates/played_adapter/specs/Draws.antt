@@ -2,7 +2,7 @@
 use Rattle.std.specs.Prelude.{◌==◌, ◌+◌, ◌%◌, ◌||◌, ℕ, if◌then◌else◌, nat_lt}
 use Rattle.rand_pcg.specs.Lcg.{Lcg}
 use Rattle.rand_pcg.specs.Pcg.{pcg32}
-use Rattle.adapter.specs.declared.step.StepKind.{StepKind}
+use Rattle.adapter.specs.model_types.step.StepKind.{StepKind}
 use Rattle.played_adapter.specs.Kinds.{kind_numbered}
 
 -- the kind of steps that the generator's next word determines, and the generator after this word

@@ -2,7 +2,7 @@
 use Rattle.std.specs.Prelude.{ℕ, List}
 use Rattle.adapter.specs.Registers.{after_write, new_adapter}
 use Rattle.adapter.specs.State.{AdapterState}
-use Rattle.registers.specs.declared.phy.Link.{Link}
+use Rattle.mdic_phy.specs.declared.phy.Link.{Link}
 
 -- PBA's offset (13.4.16 "Packet Buffer Allocation")
 abbrev pub pba : ℕ

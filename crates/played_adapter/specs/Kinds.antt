@@ -1,7 +1,7 @@
 -- The kinds of steps by number. The words of the generator and the callers of the C library choose kinds by these numbers (our choice).
 use Rattle.std.specs.Prelude.{◌==◌, ℕ, if◌then◌else◌}
-use Rattle.adapter.specs.declared.step.StepKind.{StepKind}
-use Rattle.adapter.specs.declared.step.StepKind.TheVariants.{TxTake, TxPut, RxData, RxDone, EepromTick, PhyTick}
+use Rattle.adapter.specs.model_types.step.StepKind.{StepKind}
+use Rattle.adapter.specs.model_types.step.StepKind.TheVariants.{TxTake, TxPut, RxData, RxDone, EepromTick, PhyTick}
 
 -- the kind with this number; PhyTick for 5 and above
 abbrev pub kind_numbered : ℕ → StepKind

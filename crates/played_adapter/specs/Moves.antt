@@ -1,9 +1,9 @@
 -- The moves of a schedule before accesses and requests (our choice; `finder/README.md`, "A schedule").
 use Rattle.std.specs.Prelude.{◌++◌, ◌∷◌, [], Bool, List, None, Option, Some, flat_map, if◌then◌else◌}
-use Rattle.adapter.specs.declared.step.StepKind.{StepKind}
-use Rattle.adapter.specs.declared.step.StepKind.TheVariants as kinds
-use Rattle.registers.specs.Eerd.{is_pending}
-use Rattle.registers.specs.Mdic.{has_work}
+use Rattle.adapter.specs.model_types.step.StepKind.{StepKind}
+use Rattle.adapter.specs.model_types.step.StepKind.TheVariants as kinds
+use Rattle.eeprom.specs.Eerd.{is_pending}
+use Rattle.mdic_phy.specs.Mdic.{has_work}
 use Rattle.step_schedules.specs.Agendas.{AgendaState, agenda_after, coming, default_steps_held}
 use Rattle.step_schedules.specs.Waiting.{due_before}
 use Rattle.step_schedules.specs.Words.{Text}

@@ -1,7 +1,7 @@
 -- Which steps did something (our choice).
 use Rattle.std.specs.Prelude.{ℕ, Bool, true, false}
-use Rattle.adapter.specs.declared.outcome.Outcome.{Outcome}
-use Rattle.adapter.specs.declared.outcome.Outcome.TheVariants.{Nothing, WireFull}
+use Rattle.adapter.specs.model_types.outcome.Outcome.{Outcome}
+use Rattle.adapter.specs.model_types.outcome.Outcome.TheVariants.{Nothing, WireFull}
 
 -- whether a step with this outcome did something
 abbrev pub did : Outcome (Unit {0}) → Bool

@@ -7,17 +7,17 @@ use Rattle.rand_pcg.specs.Pcg.{pcg32_of_seed}
 use Rattle.adapter.specs.Outcomes.{FrameOutcome, framed, put_by}
 use Rattle.adapter.specs.State.{AdapterState}
 use Rattle.adapter.specs.World.{World}
-use Rattle.adapter.specs.declared.outcome.Outcome.{Outcome}
-use Rattle.adapter.specs.declared.outcome.Outcome.TheVariants.{Fault, Nothing, Put, WireFull}
-use Rattle.adapter.specs.declared.step.StepKind.{StepKind}
-use Rattle.adapter.specs.declared.step.StepKind.TheVariants.{EepromTick, PhyTick, RxData, RxDone, TxPut, TxTake}
-use Rattle.bus.specs.LivelyBuses.{most_accesses}
-use Rattle.bus.specs.Machines.{after_event, is_asserted}
-use Rattle.bus.specs.Trails.{Occurs}
-use Rattle.bus.specs.declared.event.Access.{Access}
-use Rattle.bus.specs.declared.event.Access.TheVariants.{Loads, Stores}
-use Rattle.bus.specs.declared.event.Event.{Event}
-use Rattle.bus.specs.declared.event.Event.TheVariants as event
+use Rattle.adapter.specs.model_types.outcome.Outcome.{Outcome}
+use Rattle.adapter.specs.model_types.outcome.Outcome.TheVariants.{Fault, Nothing, Put, WireFull}
+use Rattle.adapter.specs.model_types.step.StepKind.{StepKind}
+use Rattle.adapter.specs.model_types.step.StepKind.TheVariants.{EepromTick, PhyTick, RxData, RxDone, TxPut, TxTake}
+use Rattle.adapter.specs.LivelyBuses.{most_accesses}
+use Rattle.adapter.specs.Machines.{after_event, is_asserted}
+use Rattle.adapter.specs.Trails.{Occurs}
+use Rattle.adapter.specs.bus_types.event.Access.{Access}
+use Rattle.adapter.specs.bus_types.event.Access.TheVariants.{Loads, Stores}
+use Rattle.adapter.specs.bus_types.event.Event.{Event}
+use Rattle.adapter.specs.bus_types.event.Event.TheVariants as event
 use Rattle.dma_memory.specs.HostMemory.{bytes_at}
 use Rattle.access_names.specs.Faults.{fault_if_any}
 use Rattle.access_names.specs.declared.engine_fault.EngineFault.{EngineFault}

@@ -1,7 +1,7 @@
 -- Requests of the server. What the generator draws precedes an access. Cycles follow an access or an arrival (our choice).
 use Rattle.std.specs.Prelude.{◌≡◌, ℕ, List, nat_lt}
-use Rattle.bus.specs.declared.event.Access.{Access}
-use Rattle.bus.specs.declared.event.Access.TheVariants.{Loads}
+use Rattle.adapter.specs.bus_types.event.Access.{Access}
+use Rattle.adapter.specs.bus_types.event.Access.TheVariants.{Loads}
 use Rattle.dma_memory.specs.HostMemory.{bytes_at}
 use Rattle.rx_engine.specs.declared.arrival.Fate.{Fate}
 use Rattle.step_schedules.specs.declared.deviation.Action.TheVariants.{Choose}

@@ -1,8 +1,8 @@
 -- What an observer is told (our choice).
 use Rattle.std.specs.Prelude.{ℕ, Bool, List, Option}
 use Rattle.adapter.specs.Outcomes.{FrameOutcome}
-use Rattle.adapter.specs.declared.step.StepKind.{StepKind}
-use Rattle.bus.specs.declared.event.Access.{Access}
+use Rattle.adapter.specs.model_types.step.StepKind.{StepKind}
+use Rattle.adapter.specs.bus_types.event.Access.{Access}
 use Rattle.access_names.specs.declared.engine_fault.EngineFault.{EngineFault}
 use Rattle.rx_engine.specs.declared.arrival.Fate.{Fate}
 use Rattle.step_schedules.specs.declared.deviation.Action.{Action}

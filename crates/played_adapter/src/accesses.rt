@@ -1,7 +1,7 @@
 // Accesses of a driver, and the steps that are played before each.
 
 ghost use Rattle.std.specs.Prelude.{◌≡◌, ◌+◌, ◌≤◌, [], false, length, true};
-ghost use Rattle.bus.specs.declared.event.Access.TheVariants.{Loads, Reads, Stores, Writes};
+ghost use Rattle.adapter.specs.bus_types.event.Access.TheVariants.{Loads, Reads, Stores, Writes};
 ghost use Rattle.dma_memory.specs.HostMemory.{bytes_at};
 ghost use Rattle.played_adapter.specs.Order.{Tells};
 ghost use Rattle.played_adapter.specs.Playing.{Accessed, AnswersLoad, AnswersStore, HappensAlone, Prepares};

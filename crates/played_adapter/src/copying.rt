@@ -4,7 +4,7 @@ ghost use Rattle.std.specs.Prelude.{◌≡◌, IfOk};
 ghost use Rattle.played_adapter.specs.Playing.{IsCopy};
 
 use crate::player::{PlayedAdapter, Queues, address_of};
-use bus::Machine;
+use adapter::Machine;
 use descriptors::copy_of;
 use std::alloc::AllocError;
 

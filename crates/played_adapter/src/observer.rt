@@ -2,7 +2,7 @@
 
 ghost use Rattle.std.specs.Prelude.{◌≤◌, ◌∷◌, [], List, length};
 ghost use Rattle.adapter.specs.Outcomes.{with_frame};
-ghost use Rattle.bus.specs.declared.event.Access.TheVariants.{Loads, Reads, Stores, Writes};
+ghost use Rattle.adapter.specs.bus_types.event.Access.TheVariants.{Loads, Reads, Stores, Writes};
 ghost use Rattle.descriptors.specs.Frames.{longest_frame};
 ghost use Rattle.played_adapter.specs.Order.{ComposesHeard};
 ghost use Rattle.played_adapter.specs.Told as told;

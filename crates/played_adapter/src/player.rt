@@ -8,8 +8,7 @@ ghost use Rattle.played_adapter.specs.Playing.{empty_queues, new_player, new_wit
 use crate::frames::Frames;
 use crate::scheduling::{MOST_SCHEDULED, ScheduledStep};
 use crate::wire::WIRE_FRAMES;
-use adapter::Adapter;
-use bus::Machine;
+use adapter::{Adapter, Machine};
 use circular_buffer::HeapCircularBuffer;
 use descriptors::FrameQueue;
 use dma_memory::HostMemory;

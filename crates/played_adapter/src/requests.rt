@@ -2,7 +2,7 @@
 // one does nothing, up to a maximum. No call plays ticks or scheduled steps, or counts an access.
 
 ghost use Rattle.std.specs.Prelude.{◌<◌, IsTrue, length};
-ghost use Rattle.bus.specs.declared.event.Access.TheVariants.{Reads, Stores, Writes};
+ghost use Rattle.adapter.specs.bus_types.event.Access.TheVariants.{Reads, Stores, Writes};
 ghost use Rattle.played_adapter.specs.Order.{Tells};
 ghost use Rattle.played_adapter.specs.Playing.{Paced, has_bytes};
 ghost use Rattle.played_adapter.specs.Requests.{ServesAccess, ServesArrival, ServesChoice, ServesLoad};

@@ -1,7 +1,7 @@
 // Steps, arrivals, and cycles of steps.
 
 ghost use Rattle.std.specs.Prelude.{◌≡◌, ◌≤◌, ◌∷◌, [], None, length};
-ghost use Rattle.adapter.specs.declared.step.StepKind.TheVariants.{TxPut};
+ghost use Rattle.adapter.specs.model_types.step.StepKind.TheVariants.{TxPut};
 ghost use Rattle.played_adapter.specs.Order.{Tells};
 ghost use Rattle.played_adapter.specs.Outcomes as outcomes;
 ghost use Rattle.played_adapter.specs.Playing.{Arrives, PlaysAll, ReportsLine};

@@ -1,13 +1,13 @@
 -- The options of a server that the words of `serve` ask for (our choice).
 use Rattle.std.specs.Prelude.{◌≡◌, ⊤, ℕ, List}
-use Rattle.registers.specs.Image.{image_with}
+use Rattle.eeprom.specs.Image.{image_with}
 use Rattle.command_line.specs.declared.job.ServeImage.{ServeImage}
 use Rattle.command_line.specs.declared.job.ServeImage.TheVariants as images
 use Rattle.command_line.specs.declared.job.ServeJob.{ServeJob}
 use Rattle.command_line.specs.declared.job.ServeLink.{ServeLink}
 use Rattle.command_line.specs.declared.job.ServeLink.TheVariants as asked
-use Rattle.registers.specs.declared.phy.Link.{Link}
-use Rattle.registers.specs.declared.phy.Link.TheVariants as links
+use Rattle.mdic_phy.specs.declared.phy.Link.{Link}
+use Rattle.mdic_phy.specs.declared.phy.Link.TheVariants as links
 use Rattle.adapter_server.specs.declared.options.ServeOptions.{ServeOptions}
 
 -- the setting of the link that a job asks for

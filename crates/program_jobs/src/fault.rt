@@ -5,9 +5,8 @@ ghost use Rattle.program_jobs.specs.Faults as spec;
 
 use crate::codes::Code;
 use adapter_server::ServeError;
-use bring_up::InitError;
 use drive::{BusFault, DriveError};
-use network_plan::PlanError;
+use driver::InitError;
 use pcap_bench::{PassError, ReadError, WriteError};
 use program_files::FileError;
 use scenario::{Fault as LineFault, Refusal};
@@ -15,6 +14,7 @@ use scenario_bench::BenchError;
 use std::alloc::{AllocError, AllocFailed, Global};
 use std::fmt::{self, Display};
 use step_schedules::ScheduleError;
+use wire::PlanError;
 
 /// Why the program ended.
 #[derive(Drop)]

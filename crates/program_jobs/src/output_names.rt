@@ -3,9 +3,9 @@ ghost use Rattle.std.specs.Prelude.{◌≡◌, ◌≤◌, IfOk, length};
 ghost use Rattle.scenario_bench.specs.FileNames.{sockets_in, wires_in};
 
 use command_line::RunJob;
-use network_plan::HostPlan;
 use scenario_bench::{socket_files, wire_files};
 use std::alloc::{AllocError, Global};
+use wire::HostPlan;
 
 /// The names of the files that a run writes in OUTDIR.
 #[derive(Drop)]

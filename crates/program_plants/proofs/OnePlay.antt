@@ -1,13 +1,13 @@
 -- What is played on an adapter leads to one state, and one list is told.
 use Rattle.std.proofs.Common.{◌≡◌, ◌==◌, ◌+◌, ◌++◌, ◌∷◌, [], ℕ, List, length, not, refl, sym, ap, subst, ◌∙◌, Bool, true, false}
 use Rattle.std.specs.Prelude.{if◌then◌else◌, replicate}
-use Rattle.adapter.specs.declared.outcome.Outcome.{Outcome}
-use Rattle.adapter.specs.declared.step.StepKind.{StepKind}
+use Rattle.adapter.specs.model_types.outcome.Outcome.{Outcome}
+use Rattle.adapter.specs.model_types.step.StepKind.{StepKind}
 use Rattle.adapter_plants.specs.OneAnswer.{one_answer}
 use Rattle.adapter_plants.specs.OneFate.{one_fate}
-use Rattle.bus.specs.declared.event.Access.{Access}
-use Rattle.bus.specs.declared.event.Access.TheVariants.{Loads, Reads, Stores}
-use Rattle.bus.specs.declared.event.Event.{Event}
+use Rattle.adapter.specs.bus_types.event.Access.{Access}
+use Rattle.adapter.specs.bus_types.event.Access.TheVariants.{Loads, Reads, Stores}
+use Rattle.adapter.specs.bus_types.event.Event.{Event}
 use Rattle.dma_memory.specs.HostMemory.{bytes_at}
 use Rattle.played_adapter.specs.Choices.{drawn, step_action}
 use Rattle.played_adapter.specs.Draws.{drawn_count}

@@ -3,7 +3,7 @@
 
 ghost use Rattle.std.specs.Prelude.{◌≡◌, IfSome, None};
 
-use bus::Bus;
+use adapter::Bus;
 use drive::QtestBus;
 use std::io::{BufRead, Write};
 

@@ -7,8 +7,7 @@ ghost use Rattle.server_output.specs.Answers.{IsSized};
 ghost use Rattle.server_requests.specs.Reading as reading;
 
 use access_names::{EngineFault, Target};
-use adapter::StepKind;
-use bus::Machine;
+use adapter::{Machine, StepKind};
 use server_output::{Answer, AnswerError};
 use server_requests::{Request, Stop};
 use std::alloc::{AllocError, Global};

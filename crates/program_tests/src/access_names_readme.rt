@@ -2,11 +2,12 @@
 
 use access_names::{Engine, EngineFault, Reason, Target, fault_of, memory_target};
 use adapter::offsets::{ICR, RDBAL, RDLEN, TCTL, TDLEN, TDT};
-use adapter::{Adapter, Outcome, StepKind};
+use adapter::{Adapter, Machine, Outcome, StepKind};
 use bitflags::Flags;
-use bus::Machine;
 use dma_memory::HostMemory;
-use registers::{Image, Link, Tctl};
+use eeprom::Image;
+use mdic_phy::Link;
+use registers::Tctl;
 use std::test::Fail;
 
 #[test]

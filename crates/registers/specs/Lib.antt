@@ -9,16 +9,3 @@ pub mod ReceiveControl
 pub mod Bytes
 pub mod ConfigSpace
 pub mod Ports
-pub mod Image
-pub mod Eerd
-pub mod EerdHistory
-pub mod EerdLaws
-pub mod Phy
-pub mod PhyPlaces
-pub mod Mdic
-pub mod PhyHistory
-pub mod MdicHistory
-pub mod WriteLaws
-pub mod PhyLaws
-pub mod MdicLaws
-pub mod Hashed

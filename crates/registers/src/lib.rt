@@ -11,33 +11,21 @@ mod bits;
 mod config_address;
 mod config_offsets;
 mod device_control;
-mod eerd;
 mod fields;
-mod hashing;
-mod image;
 mod interrupts;
 mod laws;
-mod mdic;
 mod packet_buffer;
 mod pci_function;
-mod phy;
 mod port_width;
 mod receive_control;
 mod statistics;
 
 pub use bits::{Cause, Ctrl, Rctl, Status, Tctl};
 pub use device_control::Speed;
-pub use eerd::{Eerd, ReadState};
-pub use image::{Image, WORDS, checksum_ok};
 pub use interrupts::Causes;
-pub use laws::{
-    accesses_by_history, answers_by_history, control_by_history, latch_by_history, link_by_history,
-    mdic_by_history, sets_of_places, told_by_history,
-};
-pub use mdic::{Mdic, Operation, Ticked};
+pub use laws::sets_of_places;
 pub use packet_buffer::PacketBufferAllocation;
 pub use pci_function::PciFunction;
-pub use phy::{Link, Negotiation, Phy};
 pub use port_width::PortWidth;
 pub use receive_control::GroupOffset;
 pub use statistics::Counter;

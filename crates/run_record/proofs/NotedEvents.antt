@@ -14,7 +14,7 @@ use Rattle.network_plan.specs.declared.reply.Answer.TheVariants as answer
 use Rattle.network_plan.specs.declared.reply.Reply.{Reply}
 use Rattle.stations.specs.declared.outcomes.Numbered.{Numbered}
 use Rattle.adapter.specs.Outcomes.{FrameOutcome}
-use Rattle.adapter.specs.declared.outcome.Outcome.TheVariants as outcome
+use Rattle.adapter.specs.model_types.outcome.Outcome.TheVariants as outcome
 use Rattle.stations.specs.declared.tick.Tick.{Tick}
 use Rattle.stations.specs.declared.tick.Tick.TheVariants as tick
 use Rattle.packet_socket.specs.HostCalls.{Given as GivenFrame}

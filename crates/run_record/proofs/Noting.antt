@@ -6,7 +6,7 @@ use Rattle.std.proofs.lemmas.Option.{slice_get-get_or, slice_get_within}
 use Rattle.circular_buffer.proofs.Places.{slice_get-set_other, slice_get-set_same}
 use Rattle.host_calls.specs.Happenings.{Moved, outcome_happenings}
 use Rattle.adapter.specs.Outcomes.{FrameOutcome}
-use Rattle.adapter.specs.declared.outcome.Outcome.TheVariants as outcome
+use Rattle.adapter.specs.model_types.outcome.Outcome.TheVariants as outcome
 use Rattle.run_record.specs.RecordingLaws.{stays}
 use Rattle.run_record.specs.Tallies.{IsPassage, TalliesGrow, TallyCounts, TallyGivesUp, counted_at, counted_once, passage_by}
 use Rattle.run_record.specs.Tallies.{tally_behind, tally_given_up}

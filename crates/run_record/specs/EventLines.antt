@@ -21,7 +21,7 @@ tick_told_text names told = tick_line_text names told.tick told.accesses told.ou
 abbrev pub place_text : Place → List ℕ
 place_text place = numbered [] place.number ++ numbered (codes " line ") place.line
 
--- `EVENT line LINE CALL ANSWER accesses N`, then `outcomes`, the text of the event's ticks, and a line feed; `NoCall` has no ANSWER
+-- `EVENT line LINE CALL ANSWER accesses N`, then `outcomes`, the text of the event's ticks, and a line feed; `Ticked` has no ANSWER
 abbrev pub event_line : (names : List (List ℕ)) → Place → Event → (accesses : ℕ) → FrameAnswer → (outcomes : List ℕ) → List ℕ
 event_line names place event accesses answer outcomes =
     place_text place ++ event_text names event ++ answer_text answer ++ numbered (codes " accesses ") accesses ++ outcomes ++ codes "\n"

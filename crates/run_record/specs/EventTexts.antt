@@ -1,9 +1,9 @@
 -- The parts of the line of an event or a drain in the log of a run (our choice). Hosts are numbered from 0.
 use Rattle.std.specs.Prelude.{◌++◌, [], ℕ, List, Result, Ok, Err, codes, decimal, length, slice_get, unwrap_or}
 use Rattle.adapter.specs.Outcomes.{FrameOutcome}
-use Rattle.adapter.specs.declared.outcome.Outcome.TheVariants as outcome
-use Rattle.adapter.specs.declared.step.StepKind.{StepKind}
-use Rattle.adapter.specs.declared.step.StepKind.TheVariants as step
+use Rattle.adapter.specs.model_types.outcome.Outcome.TheVariants as outcome
+use Rattle.adapter.specs.model_types.step.StepKind.{StepKind}
+use Rattle.adapter.specs.model_types.step.StepKind.TheVariants as step
 use Rattle.driver.specs.declared.interrupt.Handled.TheVariants as handled
 use Rattle.driver.specs.declared.transmit.SendError.{SendError}
 use Rattle.driver.specs.declared.transmit.SendError.TheVariants as send
@@ -113,7 +113,7 @@ group_word (Err group.GroupsFull) = codes " E24 GroupsFull"
 group_word (Err group.NotJoined) = codes " E25 NotJoined"
 group_word (Err group.Joined) = codes " E26 Joined"
 
--- a blank and the words for an answer, without numbers; nothing for `NoCall`, the answer to an event that is a tick
+-- a blank and the words for an answer, without numbers; nothing for `Ticked`, the answer to an event that is a tick
 abbrev pub answer_word : FrameAnswer → List ℕ
 answer_word (answer.Sent sent) = sent_word sent
 answer_word (answer.Received (Ok frame)) = codes " ok"
@@ -123,7 +123,7 @@ answer_word (answer.Interrupted (handled.Handled taken)) = codes " handled"
 answer_word (answer.Joined joined) = group_word joined
 answer_word (answer.Left left) = group_word left
 answer_word (answer.Reset sending holding on_after) = codes " givenup"
-answer_word answer.NoCall = []
+answer_word answer.Ticked = []
 answer_word answer.NoHost = codes " nohost"
 
 -- ` SENDING HOLDING on N`: a reset gave up `sending` frames to be sent and `holding` held frames. Its N-th access enabled
@@ -140,6 +140,6 @@ answer_numbers (answer.Interrupted (handled.Handled taken)) = numbered (codes " 
 answer_numbers (answer.Reset sending holding on_after) = given_up_numbers (length sending.items) (length holding.items) on_after
 answer_numbers one = []
 
--- the answer to an event, with its numbers; nothing for `NoCall`
+-- the answer to an event, with its numbers; nothing for `Ticked`
 abbrev pub answer_text : FrameAnswer → List ℕ
 answer_text one = answer_word one ++ answer_numbers one

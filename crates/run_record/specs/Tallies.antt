@@ -8,7 +8,7 @@ use Rattle.host_calls.specs.Happenings.{Happening, Accepted, Put, Reached, Given
 use Rattle.network_plan.specs.Answers.{FrameAnswer}
 use Rattle.network_plan.specs.declared.reply.Answer.TheVariants as answer
 use Rattle.adapter.specs.Outcomes.{FrameOutcome}
-use Rattle.adapter.specs.declared.outcome.Outcome.TheVariants as outcome
+use Rattle.adapter.specs.model_types.outcome.Outcome.TheVariants as outcome
 use Rattle.run_record.specs.Acts.{Act, history}
 use Rattle.run_record.specs.Numbers.{greatest_act_number, next_number}
 use Rattle.run_record.specs.Kept.{FramesGrow, PutsGrow, put_from, returned_from}

@@ -4,7 +4,7 @@ ghost use Rattle.run_record.specs.DrainedView.{drained_frame};
 
 use descriptors::Frame;
 use std::alloc::{AllocError, Global};
-use wire::FrameSink;
+use wire::Outlet;
 
 /// A frame, with the number of the socket that returned it.
 #[derive(Drop)]
@@ -44,7 +44,7 @@ impl DrainedFrames {
     }
 }
 
-impl FrameSink for DrainedFrames {
+impl Outlet for DrainedFrames {
     ghost frames = { λ drained. map drained_frame drained.list.items };
 
     ghost room_left = { λ drained. vec_capacity drained.list - length drained.list.items };
@@ -54,7 +54,7 @@ impl FrameSink for DrainedFrames {
     }
 
     fn take(&mut self, socket: usize, frame: &Frame) {
-        // The precondition `room` of `FrameSink::take` ensures that there is room, so `push` returns no error.
+        // The precondition `room` of `Outlet::take` ensures that there is room, so `push` returns no error.
         let _ = self.list.push(DrainedFrame {
             socket,
             frame: Frame::from_slice(frame.as_slice()),

@@ -6,13 +6,11 @@ ghost use Rattle.run_record.specs.EventLines as lines;
 ghost use Rattle.run_record.specs.EventTexts as texts;
 
 use adapter::{Fate, Outcome, StepKind};
-use bring_up::GroupError;
-use driver::{Handled, SendError};
+use driver::{GroupError, Handled, SendError};
 use itoa::Buffer;
-use network_plan::{Answer, Event};
 use packet_socket::RecvError;
-use stations::Tick;
 use std::alloc::AllocError;
+use wire::{Answer, Event, Tick};
 
 /// Where an event or a drain is in the run and in the scenario.
 #[derive(Clone, Copy)]
@@ -174,7 +172,7 @@ fn group_word(changed: Result<(), GroupError>) -> &'static [u8]
     }
 }
 
-/// Returns a blank and the words for an answer, without numbers; nothing for `NoCall`, the answer to an event that is a
+/// Returns a blank and the words for an answer, without numbers; nothing for `Ticked`, the answer to an event that is a
 /// tick.
 fn answer_word(answer: &Answer<()>) -> &'static [u8]
     ensures { (frame : List ℕ) → result.now ≡ texts.answer_word (answer_with frame answer.now) }
@@ -191,7 +189,7 @@ fn answer_word(answer: &Answer<()>) -> &'static [u8]
         Answer::Interrupted(Handled::Handled { .. }) => b" handled",
         Answer::Joined(changed) | Answer::Left(changed) => group_word(*changed),
         Answer::Reset { .. } => b" givenup",
-        Answer::NoCall => b"",
+        Answer::Ticked => b"",
         Answer::NoHost => b" nohost",
     }
 }
@@ -199,7 +197,7 @@ fn answer_word(answer: &Answer<()>) -> &'static [u8]
 /// Appends the answer to an event, and its numbers. For a recv, this is the size in bytes of `frame`, which the socket
 /// returned. For an interrupt, this is the number of frames taken. For a reset, these are `SENDING HOLDING on N`: the
 /// numbers of frames to be sent and of held frames that the reset gave up, and the number of its accesses up to and
-/// including the one that enabled the receiver again. Other answers have no numbers. Appends nothing for `NoCall`, the
+/// including the one that enabled the receiver again. Other answers have no numbers. Appends nothing for `Ticked`, the
 /// answer to an event that is a tick.
 pub(crate) fn push_answer(
     text: &mut Vec<u8>,

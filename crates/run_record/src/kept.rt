@@ -5,10 +5,10 @@ ghost use Rattle.run_record.specs.Puts.{wire_name_of};
 ghost use Rattle.scenario.specs.SoFar.{hosts_of};
 
 use descriptors::LONGEST_LEGAL;
-use network_plan::HostPlan;
 use pcap_trace::{RecordWriter, Sink, Unit, WriteError};
 use std::alloc::{AllocError, Global};
 use std::marker::Model;
+use wire::HostPlan;
 
 /// Returns the name of a host's wire, or an empty name if there is no such host.
 pub fn wire_of(plans: &[HostPlan], host: usize) -> &str

@@ -20,10 +20,9 @@ use crate::kept::KeptFrames;
 use crate::run_log::{EventLog, Refusals, RunLog};
 use crate::tally::{Passage, Tally};
 use adapter::{Fate, Outcome, StepKind};
-use network_plan::{Answer, Event, HostPlan};
-use stations::{Observer, Tick};
+use stations::Observer;
 use std::alloc::{AllocError, Global};
-use wire::RunObserver;
+use wire::{Answer, Event, HostPlan, RunObserver, Tick};
 
 /// The record of a run. As the run's observer, it is told of each tick and of the answer to each event.
 #[derive(Drop)]

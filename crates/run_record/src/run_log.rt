@@ -13,12 +13,11 @@ use crate::event_text::{
     Place, push_answer, push_drain, push_event, push_number, push_place, push_told,
 };
 use adapter::Outcome;
-use network_plan::{Answer, Event, HostPlan};
 use packet_socket::RecvError;
 use pcap_trace::{Sink, WriteError, write_all};
-use stations::Tick;
 use std::alloc::{AllocError, Global};
 use std::marker::Model;
+use wire::{Answer, Event, HostPlan, Tick};
 
 /// Room for a tick with its outcome, in bytes: more than the bytes of the longest name, two numbers and the words.
 const LONGEST_TOLD: usize = 96;

@@ -1,10 +1,7 @@
-pub mod Addresses
 pub mod Arriving
 pub mod Descriptors
-pub mod FilterLaws
 pub mod FinishedSlots
 pub mod Finishing
-pub mod GroupLists
 pub mod Hashed
 pub mod Held
 pub mod Inside
@@ -12,13 +9,9 @@ pub mod JoinedLaws
 pub mod JoinedPieces
 pub mod Laws
 pub mod Moving
-pub mod NumberTables
-pub mod Passing
 pub mod PieceLaws
 pub mod Pieces
 pub mod Receiver
-pub mod Registers
 pub mod Room
 pub mod RoomLaws
 pub mod Slots
-pub mod Writing

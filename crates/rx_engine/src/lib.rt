@@ -9,25 +9,17 @@
 //! no memory.
 #![tactic(auto)]
 
-mod address;
 mod arrival;
 mod data;
 mod done;
 mod engine;
-mod filter;
-mod filter_laws;
 mod finished;
 mod laws;
 mod storing;
-mod table;
 
-pub use address::{ADDRESS_VALID, AddressWords, hash_of};
 pub use arrival::{Fate, arrive};
 pub use data::{Data, has_frame_to_move, rx_data};
 pub use done::{Done, rx_done};
 pub use engine::{MOST_FRAMES, RxEngine, Work};
-pub use filter::{Filter, RECEIVE_ADDRESSES, TABLE_WORDS, VLAN_TYPE};
-pub use filter_laws::sets_of_registers;
 pub use finished::{append_finished, append_piece, bytes_in_progress};
 pub use laws::frames_held_by_the_receive_engine;
-pub use table::TableBit;

@@ -3,8 +3,8 @@ use Rattle.std.specs.Prelude.{◌≡◌, ◌≤◌, Bool, true, false, List, [],
 use Rattle.std.specs.Option.{option_map}
 use Rattle.std.specs.List.{fold}
 use Rattle.std.specs.Str.{bytes_eq}
-use Rattle.registers.specs.declared.phy.Link.{Link}
-use Rattle.registers.specs.declared.phy.Link.TheVariants as link
+use Rattle.mdic_phy.specs.declared.phy.Link.{Link}
+use Rattle.mdic_phy.specs.declared.phy.Link.TheVariants as link
 use Rattle.text.specs.Numbers.{number_in}
 use Rattle.text.specs.Tables.{value_in}
 use Rattle.scenario.specs.Words.{Text}

@@ -3,7 +3,7 @@ use Rattle.std.specs.Prelude.{◌≡◌, ◌<◌, ◌≤◌, ◌&&◌, ℕ, Bool
 use Rattle.std.specs.Prelude.{IsSome, IsSomeAnd, codes, drop, false, is_some, length, map, nat_le, unwrap_or}
 use Rattle.std.specs.List.{list_all}
 use Rattle.std.specs.Str.Parse.{digits_value}
-use Rattle.registers.specs.Image.{image_with}
+use Rattle.eeprom.specs.Image.{image_with}
 use Rattle.bring_up.specs.Configuration.{vlans_of}
 use Rattle.packet_socket.specs.declared.socket_kind.SocketKind.{SocketKind}
 use Rattle.packet_socket.specs.declared.socket_kind.SocketKind.TheVariants as socket

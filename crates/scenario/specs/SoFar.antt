@@ -3,7 +3,7 @@ use Rattle.std.specs.Prelude.{ℕ, Bool, List, [], Option, String, map, position
 use Rattle.std.specs.Str.{bytes_eq}
 use Rattle.std.specs.declared.alloc.Global.{Global}
 use Rattle.bring_up.specs.declared.config.Config.{Config}
-use Rattle.registers.specs.declared.phy.Link.{Link}
+use Rattle.mdic_phy.specs.declared.phy.Link.{Link}
 use Rattle.network_plan.specs.declared.event.Event.{Event}
 use Rattle.network_plan.specs.declared.event.Event.TheVariants as event
 use Rattle.network_plan.specs.declared.plan.HostPlan.{HostPlan}

@@ -10,10 +10,10 @@ use crate::host_use::HostOptions;
 use crate::refusal::Fault;
 use crate::tick_word::host_named;
 use arrayvec::ArrayVec;
-use bring_up::Config;
+use driver::Config;
+use eeprom::Image;
 use network_plan::HostPlan;
 use packet_socket::SocketKind;
-use registers::Image;
 use std::alloc::{AllocError, Global};
 
 /// An item of a host: a group, a VLAN or a socket.

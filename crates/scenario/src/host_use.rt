@@ -5,7 +5,7 @@ ghost use Rattle.scenario.specs.HostOptions as options;
 ghost use Rattle.scenario.specs.Words.{texts};
 
 use crate::spelling::{number8_of, number16_of};
-use registers::Link;
+use mdic_phy::Link;
 use std::alloc::{AllocError, Global};
 use text::value_of;
 

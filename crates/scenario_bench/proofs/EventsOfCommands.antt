@@ -7,8 +7,8 @@ use Rattle.std.specs.Prelude.{map, option_map, unwrap_or}
 use Rattle.std.proofs.lemmas.List.{drop_more, length-map}
 use Rattle.std.proofs.lemmas.List.FromFn.{map-range_with_len_more}
 use Rattle.std.proofs.lemmas.Option.{slice_get-get_or, slice_get-map}
-use Rattle.adapter.specs.declared.step.StepKind.TheVariants.{RxData, RxDone}
-use Rattle.registers.specs.Image.{address_bytes}
+use Rattle.adapter.specs.model_types.step.StepKind.TheVariants.{RxData, RxDone}
+use Rattle.eeprom.specs.Image.{address_bytes}
 use Rattle.network_plan.specs.declared.plan.HostPlan.{HostPlan}
 use Rattle.stations.specs.declared.tick.Tick.TheVariants.{Deliver, Step}
 use Rattle.scenario.specs.SoFar.{Host, Said, Interrupts, Receives, Ticks, host_of_plan, hosts_of}

@@ -3,8 +3,8 @@ use Rattle.std.proofs.Common.{◌≡◌, ◌<◌, ◌+◌, ◌++◌, ◌∷◌, 
 use Rattle.std.proofs.Common.{inl, inr, sym, ap, subst, ◌∙◌, arith}
 use Rattle.std.proofs.lemmas.Option.{slice_get_cases}
 use Rattle.circular_buffer.proofs.Places.{slice_get-some}
-use Rattle.bus.specs.LivelyBuses.{most_accesses}
-use Rattle.bus.specs.TickGroups.{without_go}
+use Rattle.adapter.specs.LivelyBuses.{most_accesses}
+use Rattle.adapter.specs.TickGroups.{without_go}
 use Rattle.stations.specs.AtomicRuns.{LeadsTo, is_go, noted_of}
 use Rattle.stations.specs.AtomicSteps.{AtomicStep, tick_of}
 use Rattle.stations.specs.Stations.{StationState}

@@ -10,8 +10,8 @@ use Rattle.rand_pcg.specs.Lcg.{Lcg}
 use Rattle.rand_pcg.specs.Pcg.{pcg32, pcg32_of_seed}
 use Rattle.dma_memory.specs.Layout.{receive_buffer_bytes}
 use Rattle.descriptors.specs.Frames.{longest_frame, shortest_frame}
-use Rattle.registers.specs.Image.{address_bytes}
-use Rattle.adapter.specs.declared.step.StepKind.TheVariants.{RxData, RxDone, TxPut, TxTake}
+use Rattle.eeprom.specs.Image.{address_bytes}
+use Rattle.adapter.specs.model_types.step.StepKind.TheVariants.{RxData, RxDone, TxPut, TxTake}
 use Rattle.stations.specs.declared.tick.Tick.{Tick}
 use Rattle.stations.specs.declared.tick.Tick.TheVariants.{Deliver, Go, Step}
 use Rattle.run_record.specs.Puts.{wire_name_of}

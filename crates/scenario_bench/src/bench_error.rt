@@ -2,9 +2,9 @@
 ghost use Rattle.std.specs.Prelude.{◌≡◌};
 ghost use Rattle.scenario_bench.specs.declared.bench_error.BenchError.TheVariants as errors;
 
-use network_plan::{PlanError, Stopped};
 use pcap_trace::WriteError;
 use std::alloc::AllocError;
+use wire::{PlanError, Stopped};
 
 /// Why playing a scenario stopped.
 #[derive(Clone, Copy)]

@@ -1,6 +1,6 @@
 //! The events of a scenario's commands.
 ghost use Rattle.std.specs.Prelude.{◌≡◌, ◌<◌, ◌++◌, ◌∷◌, [], None, OnOk, length, map};
-ghost use Rattle.registers.specs.Image.{address_bytes};
+ghost use Rattle.eeprom.specs.Image.{address_bytes};
 ghost use Rattle.scenario.specs.SoFar.{Receives, Ticks, command_of_event, hosts_of};
 ghost use Rattle.scenario_bench.specs.EventLists as lists;
 ghost use Rattle.scenario_bench.specs.PlayedEvents.{AreOfSender};
@@ -9,11 +9,10 @@ ghost use Rattle.stations.specs.declared.tick.Tick.TheVariants as ticks;
 use adapter::StepKind;
 use descriptors::{LONGEST_LEGAL, SHORTEST_LEGAL};
 use dma_memory::RECEIVE_BUFFER_BYTES;
-use network_plan::{Event, HostPlan};
-use registers::Image;
+use eeprom::Image;
 use run_record::wire_of;
-use stations::Tick;
 use std::alloc::{AllocError, Global};
+use wire::{Event, HostPlan, Tick};
 
 /// The number of bytes of a broadcast frame without data: two addresses and the EtherType (IEEE 802.3, 3.1.1).
 const HEADER: usize = 14;

@@ -3,8 +3,8 @@ ghost use Rattle.std.specs.Prelude.{◌≡◌, ◌+◌, IfOk, OnOk, length};
 ghost use Rattle.scenario_bench.specs.FileNames.{sockets_in, wires_in};
 
 use crate::wire_list::wires;
-use network_plan::HostPlan;
 use std::alloc::{AllocError, Global};
+use wire::HostPlan;
 
 /// Appends the name of the file of each socket of a host, `HOST.SOCKET.pcap`.
 fn push_socket_files(

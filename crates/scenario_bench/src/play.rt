@@ -23,7 +23,6 @@ use crate::bench_error::BenchError;
 use crate::events::{Drawn, EventsAfterSend, pieces_of};
 use crate::socket_list::sockets;
 use crate::wire_list::wires;
-use network_plan::{Event, HostPlan, Plan, Stopped};
 use pcap_trace::{RecordWriter, Sink, Trace, Unit, WriteError};
 use rand_core::SeedableRng;
 use rand_core::utils::NextWord;
@@ -31,7 +30,7 @@ use rand_pcg::Lcg64Xsh32;
 use run_record::{DrainedFrames, HostSummary, Record, Refusals, Summary, Traces};
 use scenario::{Command, Scenario};
 use std::alloc::{AllocError, Global};
-use wire::Lan;
+use wire::{Event, HostPlan, Lan, Plan, Stopped};
 
 /// Hosts on wires, the record of their run, a list for the frames of a drain, and counts of refused calls.
 #[derive(Drop)]

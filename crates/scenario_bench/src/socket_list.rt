@@ -3,8 +3,8 @@ ghost use Rattle.std.specs.Prelude.{◌≡◌, ◌++◌, IfOk, OnOk};
 ghost use Rattle.scenario.specs.SoFar.{hosts_of};
 ghost use Rattle.scenario_bench.specs.Given.{sockets_from, sockets_of_host};
 
-use network_plan::HostPlan;
 use std::alloc::{AllocError, Global};
+use wire::HostPlan;
 
 /// Appends a pair for each socket of a host: the host's number and the socket's number, in order. If memory is refused,
 /// some of the pairs may have been appended.

@@ -4,8 +4,8 @@ ghost use Rattle.scenario.specs.SoFar.{hosts_of};
 ghost use Rattle.scenario_bench.specs.WireLists.{wire_names};
 ghost use Rattle.run_record.specs.Puts.{names_in};
 
-use network_plan::HostPlan;
 use std::alloc::{AllocError, Global};
+use wire::HostPlan;
 
 /// Returns the names of the wires of these hosts: each name once, in the order in which the names first occur in
 /// `plans`. [`bench`](crate::bench) takes sinks for these wires.

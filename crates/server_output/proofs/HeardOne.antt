@@ -5,7 +5,7 @@ use Rattle.std.specs.Prelude.{Err, Ok, OnOk, Result}
 use Rattle.std.specs.Result.{is_err, result_err}
 use Rattle.access_names.specs.declared.engine_fault.EngineFault.{EngineFault}
 use Rattle.adapter.specs.Outcomes.{FrameOutcome}
-use Rattle.adapter.specs.declared.step.StepKind.{StepKind}
+use Rattle.adapter.specs.model_types.step.StepKind.{StepKind}
 use Rattle.played_adapter.specs.Told.{Stepped, Told}
 use Rattle.server_output.specs.Order.{Says, WritesPart}
 use Rattle.server_output.specs.Telling.{Heard, WroteText, kept_one, kept_with, text_of, told_text}

@@ -2,7 +2,7 @@
 use Rattle.std.specs.Prelude.{◌==◌, ℕ, List, [], ◌∷◌, Bool, true, false, Option, Some, None, Result, Ok, Err, codes, if◌then◌else◌, length}
 use Rattle.std.specs.Prelude.{replicate, IsUtf8}
 use Rattle.std.specs.Str.{bytes_eq}
-use Rattle.adapter.specs.declared.step.StepKind.{StepKind}
+use Rattle.adapter.specs.model_types.step.StepKind.{StepKind}
 use Rattle.server_requests.specs.Spellings.{Gives, bytes_spelled, greatest_number, number_at_most, payload_in, size_in, ◌>>=◌}
 use Rattle.server_requests.specs.Texts.{Text}
 use Rattle.server_requests.specs.Verbs.{step_kind_named, takes_words, verb_named}

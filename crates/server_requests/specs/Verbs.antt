@@ -1,8 +1,8 @@
 -- The kinds of requests by their first words (QEMU, docs/devel/testing/qtest, up to clock_set; from step on our choice), and kinds of
 -- steps.
 use Rattle.std.specs.Prelude.{◌==◌, ◌||◌, ℕ, Bool, List, [], ◌∷◌, Option, codes}
-use Rattle.adapter.specs.declared.step.StepKind.{StepKind}
-use Rattle.adapter.specs.declared.step.StepKind.TheVariants as kinds
+use Rattle.adapter.specs.model_types.step.StepKind.{StepKind}
+use Rattle.adapter.specs.model_types.step.StepKind.TheVariants as kinds
 use Rattle.text.specs.Tables.{value_in}
 use Rattle.server_requests.specs.Texts.{Text}
 use Rattle.registers.specs.declared.port_width.PortWidth.TheVariants as port

@@ -12,8 +12,8 @@ use Rattle.solo_bus.specs.SoloLaws.{are_free_joins, recounts_lively}
 use Rattle.bus.specs.TrailLaws.{trail_joins}
 use Rattle.bus.specs.Trails.{IsAnswered, past_of, world_after_access}
 use Rattle.bus.specs.declared.event.Event.TheVariants.{Accesses}
-use Rattle.adapter.specs.State.{IsAdapter}
-use Rattle.adapter.specs.World.{World}
+use Rattle.adapter_model.specs.State.{IsAdapter}
+use Rattle.adapter_model.specs.World.{World}
 use Rattle.solo_bus.specs.declared.solo_bus.SoloTick.{SoloTick}
 use Rattle.solo_bus.specs.declared.solo_bus.SoloTick.TheVariants.{Go}
 use Rattle.bus.proofs.StepsThenAccess.{happens_accesses, past-with_access, no_access}

@@ -4,16 +4,16 @@ use Rattle.std.proofs.Common.{map, min, slice_get, take, refl, sym, ap, subst, â
 use Rattle.std.proofs.lemmas.List.{append-nil, map-append, take_more}
 use Rattle.std.proofs.lemmas.List.Elements.{All-append, All-cons}
 use Rattle.rx_engine.specs.declared.arrival.Fate.{Fate}
-use Rattle.adapter.specs.Outcomes.{put_by}
-use Rattle.adapter.specs.Receiving.{IsFate}
-use Rattle.adapter.specs.State.{IsAdapter}
-use Rattle.adapter.specs.Steps.{Answers, ticked}
-use Rattle.adapter.specs.declared.step.StepKind.{StepKind}
-use Rattle.adapter.specs.declared.step.StepKind.TheVariants.{TxTake, TxPut, RxData, RxDone, EepromTick, PhyTick}
-use Rattle.adapter.specs.Outcomes.{FrameOutcome}
-use Rattle.adapter.specs.declared.outcome.Outcome.TheVariants.{Put}
-use Rattle.registers.specs.Eerd.{is_pending}
-use Rattle.registers.specs.Mdic.{has_work}
+use Rattle.adapter_model.specs.Outcomes.{put_by}
+use Rattle.adapter_model.specs.Receiving.{IsFate}
+use Rattle.adapter_model.specs.State.{IsAdapter}
+use Rattle.adapter_model.specs.Steps.{Answers, ticked}
+use Rattle.adapter_model.specs.declared.step.StepKind.{StepKind}
+use Rattle.adapter_model.specs.declared.step.StepKind.TheVariants.{TxTake, TxPut, RxData, RxDone, EepromTick, PhyTick}
+use Rattle.adapter_model.specs.Outcomes.{FrameOutcome}
+use Rattle.adapter_model.specs.declared.outcome.Outcome.TheVariants.{Put}
+use Rattle.eeprom.specs.Eerd.{is_pending}
+use Rattle.mdic_phy.specs.Mdic.{has_work}
 use Rattle.bus.specs.TickGroups.{behind_group, group_of, without_go}
 use Rattle.bus.specs.Pasts.{Past}
 use Rattle.bus.specs.LivelyBuses.{most_accesses}

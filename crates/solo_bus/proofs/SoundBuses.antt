@@ -16,31 +16,31 @@ use Rattle.descriptors.specs.TxFields.{command_bits}
 use Rattle.tx_engine.specs.Fetching.{IsTransmittable, transmit_descriptor_at, fetched}
 use Rattle.tx_engine.specs.ToSend.{to_send}
 use Rattle.descriptors.specs.Frames.{IsLegal}
-use Rattle.registers.specs.declared.phy.Link.TheVariants.{Never}
+use Rattle.mdic_phy.specs.declared.phy.Link.TheVariants.{Never}
 use Rattle.rx_engine.specs.declared.arrival.Fate.{Fate}
 use Rattle.rx_engine.specs.declared.arrival.Fate.TheVariants.{Off, Illegal, Filtered, Missed, Stored}
-use Rattle.rx_engine.specs.Passing.{AcceptsAddress, AcceptsVlan, Passes}
-use Rattle.rx_engine.specs.Registers.{filter_of}
+use Rattle.rx_filter.specs.Passing.{AcceptsAddress, AcceptsVlan, Passes}
+use Rattle.rx_filter.specs.Registers.{filter_of}
 use Rattle.rx_engine.specs.Descriptors as receive
-use Rattle.adapter.specs.Receiving.{CanMovePiece, DataAnswers, DoneAnswers, HasFrameAndDescriptor, IsFate, is_last_piece}
-use Rattle.adapter.specs.Steps.{Answers}
-use Rattle.adapter.specs.Transmitting.{CanTake, HasNothingToTake, TakeAnswers}
-use Rattle.adapter.specs.declared.step.StepKind.{StepKind}
-use Rattle.adapter.specs.declared.step.StepKind.TheVariants.{RxData, RxDone, TxTake}
-use Rattle.adapter.specs.Outcomes.{FrameOutcome}
-use Rattle.adapter.specs.declared.outcome.Outcome.TheVariants.{Took, Part, Moved, Done, Nothing, Fault}
-use Rattle.adapter.specs.Registers.{new_adapter}
-use Rattle.adapter.specs.Table.{array_register_at, register_at}
+use Rattle.adapter_model.specs.Receiving.{CanMovePiece, DataAnswers, DoneAnswers, HasFrameAndDescriptor, IsFate, is_last_piece}
+use Rattle.adapter_model.specs.Steps.{Answers}
+use Rattle.adapter_model.specs.Transmitting.{CanTake, HasNothingToTake, TakeAnswers}
+use Rattle.adapter_model.specs.declared.step.StepKind.{StepKind}
+use Rattle.adapter_model.specs.declared.step.StepKind.TheVariants.{RxData, RxDone, TxTake}
+use Rattle.adapter_model.specs.Outcomes.{FrameOutcome}
+use Rattle.adapter_model.specs.declared.outcome.Outcome.TheVariants.{Took, Part, Moved, Done, Nothing, Fault}
+use Rattle.adapter_model.specs.Registers.{new_adapter}
+use Rattle.adapter_model.specs.Table.{array_register_at, register_at}
 use Rattle.solo_bus.specs.SoundWorlds.{HasFinished, HasFramesInBuffer, HasFramesInRing, HasRings, HasPieceInWork}
-use Rattle.adapter.specs.HostAreas.{buffer_of, data_of}
-use Rattle.adapter.specs.Slots.{finished, is_done}
+use Rattle.adapter_model.specs.HostAreas.{buffer_of, data_of}
+use Rattle.adapter_model.specs.Slots.{finished, is_done}
 use Rattle.bus.specs.IdleRings.{IsIdle}
-use Rattle.adapter.specs.Conditions.{Reports, Sound}
+use Rattle.adapter_model.specs.Conditions.{Reports, Sound}
 use Rattle.bus.specs.SlotOffers.{CanOffer, CanSend, HasRoom}
 use Rattle.solo_bus.specs.SoundBuses.{call, called, ready, finished_slot, request, requested, resting, sending, taken, working}
 use Rattle.bus.specs.StepsAndArrivals.{world_after_arrival, world_after_step}
-use Rattle.adapter.specs.State.{IsAdapter}
-use Rattle.adapter.specs.World.{World, world_after_write}
+use Rattle.adapter_model.specs.State.{IsAdapter}
+use Rattle.adapter_model.specs.World.{World, world_after_write}
 use Rattle.bus.proofs.IdleRings.{idle-areas, idle_rings_are_sound, stores_keep_idle}
 use Rattle.bus.proofs.StepInstances.{arrivals_happen, steps_happen}
 use Rattle.bus.proofs.Lists.{all-none, pairs-none}

@@ -17,16 +17,16 @@ use Rattle.rx_engine.specs.declared.engine.Work.{Work}
 use Rattle.tx_engine.specs.Fetching.{fetched}
 use Rattle.tx_engine.specs.Transmitter.{Queued}
 use Rattle.solo_bus.specs.SoundWorlds.{HasFinished, HasFramesInBuffer, HasFramesInRing, HasRings, HasPieceInWork, HasWrittenBack, SomeSound}
-use Rattle.adapter.specs.HostFrames.{finished_pieces, named}
-use Rattle.adapter.specs.Rings.{ring_of}
-use Rattle.adapter.specs.Transmitting.{moved_on}
-use Rattle.adapter.specs.Slots.{finished, is_done, written_back_slots}
-use Rattle.adapter.specs.Conditions.{FitBuffers}
+use Rattle.adapter_model.specs.HostFrames.{finished_pieces, named}
+use Rattle.adapter_model.specs.Rings.{ring_of}
+use Rattle.adapter_model.specs.Transmitting.{moved_on}
+use Rattle.adapter_model.specs.Slots.{finished, is_done, written_back_slots}
+use Rattle.adapter_model.specs.Conditions.{FitBuffers}
 use Rattle.bus.specs.Law.{Between}
 use Rattle.bus.specs.Pasts.{Past, nothing}
-use Rattle.adapter.specs.Running.{CanRun, CanTransmit}
+use Rattle.adapter_model.specs.Running.{CanRun, CanTransmit}
 use Rattle.solo_bus.specs.SoundBuses.{call, called, ready, requested, resting, sending, working}
-use Rattle.adapter.specs.World.{receive_ring, transmit_ring, World}
+use Rattle.adapter_model.specs.World.{receive_ring, transmit_ring, World}
 use Rattle.bus.proofs.RxDoneSteps.{between_done, done_adapter}
 use Rattle.bus.proofs.IdleRings.{idle_rings_are_sound, offered-none, outstanding-none}
 use Rattle.bus.proofs.Lists.{all-none}
@@ -40,7 +40,7 @@ use Rattle.bus.proofs.TxTakeSteps.{between_padded, taken}
 use Rattle.bus.proofs.StepsBesideRings.{between_quiet, going}
 use Rattle.rx_engine.specs.declared.arrival.Fate.TheVariants.{Stored}
 use Rattle.bus.specs.StepsAndArrivals.{past_of_arrival}
-use Rattle.adapter.specs.HostAreas.{buffer_size}
+use Rattle.adapter_model.specs.HostAreas.{buffer_size}
 
 -- The engines can run.
 

@@ -2,13 +2,13 @@
 use Rattle.std.specs.Prelude.{⊤, ◌≡◌, ◌+◌, ◌++◌, ℕ, Bool, true, false, List, [], ◌∷◌, All, length, map, min, nat_lt, sum_by}
 use Rattle.std.specs.Prelude.{if◌then◌else◌}
 use Rattle.rx_engine.specs.declared.arrival.Fate.{Fate}
-use Rattle.adapter.specs.Outcomes.{put_by, framed}
-use Rattle.adapter.specs.World.{World}
+use Rattle.adapter_model.specs.Outcomes.{put_by, framed}
+use Rattle.adapter_model.specs.World.{World}
 use Rattle.tx_engine.specs.Transmitter.{Queued}
-use Rattle.adapter.specs.declared.step.StepKind.{StepKind}
-use Rattle.adapter.specs.declared.step.StepKind.TheVariants.{EepromTick, PhyTick}
-use Rattle.adapter.specs.declared.outcome.Outcome.{Outcome}
-use Rattle.adapter.specs.Outcomes.{FrameOutcome}
+use Rattle.adapter_model.specs.declared.step.StepKind.{StepKind}
+use Rattle.adapter_model.specs.declared.step.StepKind.TheVariants.{EepromTick, PhyTick}
+use Rattle.adapter_model.specs.declared.outcome.Outcome.{Outcome}
+use Rattle.adapter_model.specs.Outcomes.{FrameOutcome}
 use Rattle.bus.specs.LivelyBuses.{most_accesses}
 use Rattle.bus.specs.TickGroups.{behind_group, group_of, groups_of, played_in, waiting_after}
 use Rattle.bus.specs.Pasts.{Past}

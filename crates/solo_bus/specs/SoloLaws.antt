@@ -5,7 +5,7 @@ use Rattle.std.proofs.Common.{subst, ◌∙◌, append_assoc, arith, length-appe
 use Rattle.std.proofs.lemmas.List.{append-nil, map-append}
 use Rattle.std.proofs.lemmas.List.Sums.{sum_by-cons}
 use Rattle.bus.specs.Pasts.{Past, joined, nothing}
-use Rattle.adapter.specs.declared.step.StepKind.TheVariants.{TxTake, TxPut, RxData, RxDone, EepromTick, PhyTick}
+use Rattle.adapter_model.specs.declared.step.StepKind.TheVariants.{TxTake, TxPut, RxData, RxDone, EepromTick, PhyTick}
 use Rattle.bus.specs.TickGroupLaws.{played_counts, played_joins, waiting_joins}
 use Rattle.bus.specs.TickGroups.{played_in, waiting_after}
 use Rattle.bus.specs.LivelyBuses.{most_accesses}

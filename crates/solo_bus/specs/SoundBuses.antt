@@ -2,15 +2,15 @@
 -- all zeros, so each receive descriptor points to the buffer at address 0. Both rings, of eight slots each, are after this buffer.
 use Rattle.std.specs.Prelude.{◌+◌, ℕ, List, [], ◌∷◌, replicate}
 use Rattle.descriptors.specs.Frames.{shortest_frame}
-use Rattle.registers.specs.declared.phy.Link.TheVariants.{Never}
+use Rattle.mdic_phy.specs.declared.phy.Link.TheVariants.{Never}
 use Rattle.registers.specs.Places.{alone, rctl_bam, rctl_en, tctl_en, tctl_psp}
 use Rattle.rx_engine.specs.declared.arrival.Fate.TheVariants.{Stored}
-use Rattle.adapter.specs.Registers.{filter_at_reset, new_adapter}
-use Rattle.adapter.specs.declared.step.StepKind.TheVariants.{RxData, RxDone, TxTake}
-use Rattle.adapter.specs.declared.outcome.Outcome.TheVariants.{Done, Moved, Took}
+use Rattle.adapter_model.specs.Registers.{filter_at_reset, new_adapter}
+use Rattle.adapter_model.specs.declared.step.StepKind.TheVariants.{RxData, RxDone, TxTake}
+use Rattle.adapter_model.specs.declared.outcome.Outcome.TheVariants.{Done, Moved, Took}
 use Rattle.bus.specs.SlotOffers.{offering, offering_frame}
 use Rattle.bus.specs.StepsAndArrivals.{world_after_arrival, world_after_step}
-use Rattle.adapter.specs.World.{World, world_after_store}
+use Rattle.adapter_model.specs.World.{World, world_after_store}
 use Rattle.solo_bus.specs.declared.sound_buses.TheConstants.{RECEIVE_RING, RING_BYTES, TRANSMIT_RING}
 
 -- A world in which both rings are set up, and no slot is offered: RCTL has EN and BAM, with buffers of 2,048 bytes, and TCTL has EN and

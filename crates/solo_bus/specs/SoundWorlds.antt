@@ -1,12 +1,12 @@
 -- Worlds in which the conditions of the law hold and the engines can run, so the conditions can be met.
 use Rattle.std.specs.Prelude.{◌≢◌, ◌<◌, []}
 use Rattle.descriptors.specs.Ring.{count_of}
-use Rattle.adapter.specs.Slots.{buffered, finished, slots_in_work, offered, written_back_slots}
-use Rattle.adapter.specs.HostAreas.{buffer_size}
-use Rattle.adapter.specs.HostFrames.{frames_to_send}
-use Rattle.adapter.specs.Conditions.{FitBuffers, Sound}
-use Rattle.adapter.specs.Running.{CanRun}
-use Rattle.adapter.specs.World.{receive_ring, transmit_ring, World}
+use Rattle.adapter_model.specs.Slots.{buffered, finished, slots_in_work, offered, written_back_slots}
+use Rattle.adapter_model.specs.HostAreas.{buffer_size}
+use Rattle.adapter_model.specs.HostFrames.{frames_to_send}
+use Rattle.adapter_model.specs.Conditions.{FitBuffers, Sound}
+use Rattle.adapter_model.specs.Running.{CanRun}
+use Rattle.adapter_model.specs.World.{receive_ring, transmit_ring, World}
 
 -- Some world has this property and meets the conditions, with the first slot of each ring as the oldest one. The frames of this world fit
 -- into buffers of the size that RCTL.BSIZE selects, and its engines can run.

@@ -6,7 +6,7 @@ ghost use Rattle.registers.specs.Bits.{Meet};
 ghost use Rattle.solo_bus.specs.SoloBuses.{SoloState};
 ghost use Rattle.solo_bus.specs.SoloView.{solo_of, HasQueues};
 
-use adapter::{Adapter, Fate, Outcome, StepKind};
+use adapter_model::{Adapter, Fate, Outcome, StepKind};
 use bus::Machine;
 use circular_buffer::HeapCircularBuffer;
 use descriptors::{Frame, FrameQueue};
@@ -57,15 +57,15 @@ impl Model for SoloBus {
 }
 
 impl SoloBus {
-    ghost use Rattle.adapter.specs.Receiving.{IsFate};
-    ghost use Rattle.adapter.specs.Registers.{answer_at};
-    ghost use Rattle.adapter.specs.Steps.{Answers};
+    ghost use Rattle.adapter_model.specs.Receiving.{IsFate};
+    ghost use Rattle.adapter_model.specs.Registers.{answer_at};
+    ghost use Rattle.adapter_model.specs.Steps.{Answers};
     ghost use Rattle.bus.specs.TickGroups.{behind_group, group_of, without_go};
     ghost use Rattle.bus.specs.LivelyBuses.{most_accesses};
     ghost use Rattle.solo_bus.specs.SoloBuses.{PlaysSoloTicks, Prepared, wire_has_room, is_solo_go, lively_ticks};
     ghost use Rattle.solo_bus.specs.SoloBuses.{frames_put_next, solo_after_arrival, solo_after_step, solo_framed};
-    ghost use Rattle.adapter.specs.State.{IsAdapter};
-    ghost use Rattle.adapter.specs.World.{world_after_read, world_after_store, world_after_write};
+    ghost use Rattle.adapter_model.specs.State.{IsAdapter};
+    ghost use Rattle.adapter_model.specs.World.{world_after_read, world_after_store, world_after_write};
     ghost use Rattle.dma_memory.specs.HostMemory.{bytes_at, LiesIn};
 
     /// Returns a bus without ticks to be played, and with an empty wire. A lively bus plays a tick of the EEPROM and a
@@ -147,10 +147,10 @@ impl SoloBus {
         Some(frame)
     }
 
-    /// Appends ticks to those that wait. Plays none now. Before each later access, the ticks up to
-    /// the next [`Go`](SoloTick::Go) are played, or all ticks if no `Go` waits. At most 32 ticks, including these, may
-    /// wait.
-    pub fn queue(&mut self, ticks: &[SoloTick])
+    /// Appends ticks to those that wait, for the accesses that follow; no tick is played now. Before each later access,
+    /// the ticks up to the next [`Go`](SoloTick::Go) are played, or all ticks if no `Go` waits. At most 32 ticks,
+    /// including these, may wait.
+    pub fn play(&mut self, ticks: &[SoloTick])
         requires room { length self.old.waiting + length ticks.now ≤ MOST_TICKS }
         ensures { self.new ≡ record self.old { waiting = self.old.waiting ++ ticks.now } }
     {

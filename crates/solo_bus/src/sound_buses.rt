@@ -7,14 +7,15 @@
 
 ghost use Rattle.std.specs.Prelude.{◌≡◌, IfOk};
 ghost use Rattle.solo_bus.specs.SoundWorlds.{HasFinished, HasFramesInBuffer, HasFramesInRing, HasRings, HasPieceInWork};
-ghost use Rattle.adapter.specs.Conditions.{Sound};
+ghost use Rattle.adapter_model.specs.Conditions.{Sound};
 ghost use Rattle.solo_bus.specs.SoundBuses.{ready, finished_slot, resting, sending, taken, working};
 
 use crate::SoloBus;
-use adapter::offsets::{RCTL, RDBAL, RDLEN, RDT, TCTL, TDBAL, TDLEN, TDT};
-use adapter::{Adapter, StepKind};
+use adapter_model::offsets::{RCTL, RDBAL, RDLEN, RDT, TCTL, TDBAL, TDLEN, TDT};
+use adapter_model::{Adapter, StepKind};
 use dma_memory::HostMemory;
-use registers::{Image, Link};
+use eeprom::Image;
+use mdic_phy::Link;
 use std::alloc::{AllocError, Global};
 
 /// The number of bytes of memory.

@@ -6,11 +6,11 @@ use Rattle.std.proofs.lemmas.Option.{slice_get-get_or, slice_get_past}
 use Rattle.circular_buffer.proofs.Places.{slice_get-some}
 use Rattle.adapter.specs.State.{IsAdapter}
 use Rattle.adapter.specs.World.{World}
-use Rattle.bus.specs.Machines.{MachineState, after_event}
-use Rattle.bus.specs.Trails.{past_of_event}
-use Rattle.bus.specs.declared.event.Access.{Access}
-use Rattle.bus.specs.declared.event.Event.{Event}
-use Rattle.bus.specs.declared.event.Event.TheVariants.{Accesses}
+use Rattle.adapter.specs.Machines.{MachineState, after_event}
+use Rattle.adapter.specs.Trails.{past_of_event}
+use Rattle.adapter.specs.bus_types.event.Access.{Access}
+use Rattle.adapter.specs.bus_types.event.Event.{Event}
+use Rattle.adapter.specs.bus_types.event.Event.TheVariants.{Accesses}
 use Rattle.stations.specs.Ends.{EndState}
 use Rattle.stations.specs.StationsView.{HasEndsOfWires, station_of, stations_in, stations_of}
 use Rattle.stations.specs.declared.stations.Stations.TheInside.{Inside}

@@ -1,6 +1,6 @@
 -- No event changes the number of hosts.
 use Rattle.std.proofs.Common.{◌≡◌, ℕ, List, [], ◌∷◌, Option, Some, None, length, refl, ap, suc, slice_get, ◌∙◌}
-use Rattle.bus.specs.declared.event.Event.{Event}
+use Rattle.adapter.specs.bus_types.event.Event.{Event}
 use Rattle.stations.specs.AtomicRuns.{LeadsTo}
 use Rattle.stations.specs.AtomicSteps.{At, AtomicStep, Idles, after_atomic}
 use Rattle.stations.specs.Stations.{StationState, all_after, at_each, each_after, stations_after}

@@ -7,17 +7,17 @@ use Rattle.std.proofs.lemmas.List.{append-nil, map-append}
 use Rattle.std.proofs.lemmas.Option.{slice_get_cases}
 use Rattle.adapter.specs.State.{IsAdapter}
 use Rattle.adapter.specs.World.{World}
-use Rattle.bus.proofs.Trails.{trail_happens}
-use Rattle.bus.specs.BusMembers.{KeepsProperties}
-use Rattle.bus.specs.Law.{Acts, view}
-use Rattle.bus.specs.Pasts.{joined}
-use Rattle.bus.specs.TrailLaws.{past_of-append}
-use Rattle.bus.specs.Trails.{IsAnswered, Trail, past_of, world_after_access}
-use Rattle.bus.specs.declared.event.Access.{Access}
-use Rattle.bus.specs.declared.event.Access.TheVariants.{Loads}
-use Rattle.bus.specs.declared.event.Event.{Event}
-use Rattle.bus.specs.declared.event.Event.TheVariants.{Accesses}
-use Rattle.bus.proofs.StepsThenAccess.{happens_accesses, past-with_access, no_access}
+use Rattle.adapter.proofs.Trails.{trail_happens}
+use Rattle.adapter.specs.BusMembers.{KeepsProperties}
+use Rattle.adapter.specs.Law.{Acts, view}
+use Rattle.adapter.specs.Pasts.{joined}
+use Rattle.adapter.specs.TrailLaws.{past_of-append}
+use Rattle.adapter.specs.Trails.{IsAnswered, Trail, past_of, world_after_access}
+use Rattle.adapter.specs.bus_types.event.Access.{Access}
+use Rattle.adapter.specs.bus_types.event.Access.TheVariants.{Loads}
+use Rattle.adapter.specs.bus_types.event.Event.{Event}
+use Rattle.adapter.specs.bus_types.event.Event.TheVariants.{Accesses}
+use Rattle.adapter.proofs.StepsThenAccess.{happens_accesses, past-with_access, no_access}
 use Rattle.stations.proofs.Places.{set-after, set-same}
 use Rattle.stations.specs.AtomicSteps.{At, OccursAt, tick_of}
 use Rattle.stations.specs.Stations.{StationState, stations_after, wire_of, world_at}
@@ -28,7 +28,7 @@ use Rattle.stations.proofs.Lengths.{length-event}
 use Rattle.stations.proofs.HostTrails.{steps-alone, trail-of, world-here}
 use Rattle.stations.proofs.TickLoops.{counted-ticks}
 use Rattle.stations.specs.AtomicRunLaws.{counted_join, leads_join, past_join, steps_told_join}
-use Rattle.bus.specs.LivelyBuses.{most_accesses}
+use Rattle.adapter.specs.LivelyBuses.{most_accesses}
 use Rattle.stations.specs.AtomicRuns.{counted_of, events_at, past_at, steps_told}
 use Rattle.stations.specs.LentBuses.{PreparedLent, HappenedLent, SameLent, bytes_here, world_here}
 use Rattle.stations.specs.LentBusLaws.{same_lent_on}

@@ -4,8 +4,8 @@ use Rattle.std.proofs.Common.{length, slice_get, slice_set, option_map, if◌the
 use Rattle.std.proofs.lemmas.Bool.Decides.{eqb_tells}
 use Rattle.std.proofs.lemmas.List.{append-nil}
 use Rattle.circular_buffer.proofs.Places.{slice_get-set_other, slice_get-set_same}
-use Rattle.bus.specs.Trails.{past_of_event}
-use Rattle.bus.specs.declared.event.Event.{Event}
+use Rattle.adapter.specs.Trails.{past_of_event}
+use Rattle.adapter.specs.bus_types.event.Event.{Event}
 use Rattle.stations.specs.Stations.{StationState, all_after, at_each, each_after, station_after, stations_after, with_frames}
 
 pub same-places : {X : Type 0} (xs ys : List X) → ((k : ℕ) → slice_get xs k ≡ slice_get ys k) → xs ≡ ys

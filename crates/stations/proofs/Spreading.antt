@@ -3,7 +3,7 @@ use Rattle.std.proofs.Common.{◌≡◌, ◌≢◌, ◌<◌, ◌↔◌, ◌==◌
 use Rattle.std.proofs.Common.{length, option_map, slice_get, slice_index_or, slice_set, if◌then◌else◌, refl, sym, ap, subst, ◌∙◌, arith}
 use Rattle.std.proofs.lemmas.Option.{slice_get_within}
 use Rattle.circular_buffer.proofs.Places.{slice_get-some}
-use Rattle.bus.specs.Machines.{MachineState}
+use Rattle.adapter.specs.Machines.{MachineState}
 use Rattle.stations.specs.Ends.{EndState, HaveRoom, end_after_put}
 use Rattle.stations.specs.StationsView.{HasEndsOfWires, station_of, stations_in, stations_of}
 use Rattle.stations.specs.declared.stations.Stations.TheInside.{Inside}
@@ -12,12 +12,12 @@ use Rattle.rx_engine.specs.declared.arrival.Fate.{Fate}
 use Rattle.adapter.specs.Outcomes.{FrameOutcome, framed, oldest_queued}
 use Rattle.adapter.specs.State.{IsAdapter}
 use Rattle.adapter.specs.Steps.{Answers}
-use Rattle.adapter.specs.declared.outcome.Outcome.{Outcome}
-use Rattle.adapter.specs.declared.outcome.Outcome.TheVariants.{Delivered, Nothing, Put, WireFull}
-use Rattle.adapter.specs.declared.step.StepKind.TheVariants.{TxPut}
-use Rattle.bus.specs.Machines.{after_event}
-use Rattle.bus.specs.Trails.{Occurs}
-use Rattle.bus.specs.declared.event.Event.TheVariants.{Arrives, Steps}
+use Rattle.adapter.specs.model_types.outcome.Outcome.{Outcome}
+use Rattle.adapter.specs.model_types.outcome.Outcome.TheVariants.{Delivered, Nothing, Put, WireFull}
+use Rattle.adapter.specs.model_types.step.StepKind.TheVariants.{TxPut}
+use Rattle.adapter.specs.Machines.{after_event}
+use Rattle.adapter.specs.Trails.{Occurs}
+use Rattle.adapter.specs.bus_types.event.Event.TheVariants.{Arrives, Steps}
 use Rattle.stations.specs.AtomicSteps.{PlaysTick}
 use Rattle.stations.specs.Stations.{backlog_at, backlog_of}
 use Rattle.stations.specs.declared.tick.Tick.TheVariants.{Deliver, Step}

@@ -6,9 +6,9 @@ use Rattle.std.proofs.Common.{arith, if◌then◌else◌, length-append, not}
 use Rattle.std.proofs.lemmas.Bool.Decides.{eqb_tells}
 use Rattle.std.proofs.lemmas.List.{append-nil, map-append}
 use Rattle.std.proofs.lemmas.List.Elements.{All-append, All-cons}
-use Rattle.bus.proofs.Lists.{all-head, all-none, all-tail}
-use Rattle.bus.specs.TickGroups.{behind_group, group_of, without_go}
-use Rattle.bus.specs.declared.event.Event.TheVariants.{Accesses, Arrives, Steps}
+use Rattle.adapter.proofs.Lists.{all-head, all-none, all-tail}
+use Rattle.adapter.specs.TickGroups.{behind_group, group_of, without_go}
+use Rattle.adapter.specs.bus_types.event.Event.TheVariants.{Accesses, Arrives, Steps}
 use Rattle.stations.specs.AtomicSteps.{At, AtomicStep, Idles, PlaysNoted, Watched, step_outcome, tick_of}
 use Rattle.stations.specs.ToldTicks.{ComposesTold, TickTold, tick_told}
 use Rattle.stations.specs.declared.observer.Observer.{Ghosts as OfObserver}

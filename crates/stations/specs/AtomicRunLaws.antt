@@ -1,10 +1,10 @@
 -- Laws of two consecutive lists of atomic steps, and of what is noted of atomic steps.
 use Rattle.std.proofs.Common.{◌≡◌, ℕ, List, [], ◌∷◌, ◌++◌, map, refl, sym, ap, subst, ◌∙◌, append_assoc}
 use Rattle.std.proofs.lemmas.Grind.{flat_map-append}
-use Rattle.bus.specs.Pasts.{joined}
-use Rattle.bus.specs.TrailLaws.{past_of-append}
-use Rattle.bus.specs.Trails.{past_of}
-use Rattle.bus.specs.declared.event.Event.TheVariants.{Accesses, Arrives, Steps}
+use Rattle.adapter.specs.Pasts.{joined}
+use Rattle.adapter.specs.TrailLaws.{past_of-append}
+use Rattle.adapter.specs.Trails.{past_of}
+use Rattle.adapter.specs.bus_types.event.Event.TheVariants.{Accesses, Arrives, Steps}
 use Rattle.stations.specs.AtomicSteps.{At, AtomicStep, Idles, after_atomic}
 use Rattle.stations.specs.Stations.{StationState}
 use Rattle.stations.specs.Outcomes.{note_of}

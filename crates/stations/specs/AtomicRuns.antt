@@ -1,15 +1,15 @@
 -- Atomic steps one after the other, in a call of one host or between calls (our choice).
 use Rattle.std.specs.Prelude.{⊤, ◌≡◌, ◌+◌, ◌==◌, ◌++◌, ℕ, Bool, false, true, List, [], ◌∷◌, min, if◌then◌else◌}
 use Rattle.std.specs.List.{flat_map}
-use Rattle.bus.specs.LivelyBuses.{most_accesses}
-use Rattle.bus.specs.Pasts.{Past}
-use Rattle.bus.specs.Trails.{past_of}
-use Rattle.bus.specs.declared.event.Event.{Event}
-use Rattle.bus.specs.declared.event.Event.TheVariants.{Accesses, Arrives, Steps}
+use Rattle.adapter.specs.LivelyBuses.{most_accesses}
+use Rattle.adapter.specs.Pasts.{Past}
+use Rattle.adapter.specs.Trails.{past_of}
+use Rattle.adapter.specs.bus_types.event.Event.{Event}
+use Rattle.adapter.specs.bus_types.event.Event.TheVariants.{Accesses, Arrives, Steps}
 use Rattle.stations.specs.AtomicSteps.{At, AtomicStep, CanHappen, Idles, after_atomic, step_outcome}
 use Rattle.stations.specs.Stations.{StationState}
 use Rattle.stations.specs.ToldTicks.{TickTold, tick_told}
-use Rattle.adapter.specs.declared.outcome.Outcome.TheVariants.{Delivered, Nothing}
+use Rattle.adapter.specs.model_types.outcome.Outcome.TheVariants.{Delivered, Nothing}
 use Rattle.stations.specs.declared.outcomes.Numbered.{Numbered}
 use Rattle.stations.specs.declared.tick.Tick.{Tick}
 use Rattle.stations.specs.declared.tick.Tick.TheVariants.{Deliver, Go, Step}

@@ -3,15 +3,15 @@ use Rattle.std.specs.Prelude.{⊤, ◌≡◌, ◌≤◌, ◌+◌, ◌∷◌, ◌
 use Rattle.rx_engine.specs.declared.arrival.Fate.{Fate}
 use Rattle.adapter.specs.Receiving.{IsFate}
 use Rattle.adapter.specs.State.{IsAdapter}
-use Rattle.adapter.specs.declared.step.StepKind.TheVariants.{TxPut}
-use Rattle.bus.specs.Trails.{Occurs}
-use Rattle.bus.specs.declared.event.Event.{Event}
-use Rattle.bus.specs.declared.event.Event.TheVariants.{Accesses, Arrives, Steps}
+use Rattle.adapter.specs.model_types.step.StepKind.TheVariants.{TxPut}
+use Rattle.adapter.specs.Trails.{Occurs}
+use Rattle.adapter.specs.bus_types.event.Event.{Event}
+use Rattle.adapter.specs.bus_types.event.Event.TheVariants.{Accesses, Arrives, Steps}
 use Rattle.stations.specs.ToldTicks.{tick_told}
 use Rattle.stations.specs.declared.observer.Observer.{Ghosts as OfObserver}
 use Rattle.stations.specs.Stations.{StationState, WireHasRoom, backlog_at, station_after, stations_after, wire_at, world_at}
 use Rattle.adapter.specs.Outcomes.{FrameOutcome}
-use Rattle.adapter.specs.declared.outcome.Outcome.TheVariants.{Delivered, Nothing}
+use Rattle.adapter.specs.model_types.outcome.Outcome.TheVariants.{Delivered, Nothing}
 use Rattle.stations.specs.declared.tick.Tick.{Tick}
 use Rattle.stations.specs.declared.tick.Tick.TheVariants.{Deliver, Go, Step}
 

@@ -1,16 +1,16 @@
 -- Lemmas: if `SameLent` or `HappenedLent` holds in each of two consecutive intervals, it holds in both together.
 use Rattle.std.proofs.Common.{◌≡◌, ◌+◌, ◌++◌, ℕ, List, [], length, map, min, refl, sym, ap, subst, ◌∙◌, arith, length-append}
 use Rattle.std.proofs.lemmas.List.{map-append}
-use Rattle.bus.specs.Pasts.{Past, joined, nothing}
-use Rattle.bus.specs.TickGroupLaws.{played_joins, waiting_joins}
-use Rattle.bus.specs.TickGroups.{played_in, waiting_after}
+use Rattle.adapter.specs.Pasts.{Past, joined, nothing}
+use Rattle.adapter.specs.TickGroupLaws.{played_joins, waiting_joins}
+use Rattle.adapter.specs.TickGroups.{played_in, waiting_after}
 use Rattle.stations.specs.AtomicSteps.{tick_of}
 use Rattle.stations.specs.ToldTicks.{ComposesTold}
 use Rattle.stations.specs.declared.observer.Observer.{Ghosts as OfObserver}
 use Rattle.stations.specs.declared.tick.Tick.{Tick}
 use Rattle.stations.specs.declared.tick.Tick.TheVariants.{Go}
 use Rattle.stations.specs.AtomicRunLaws.{counted_join, leads_join, past_join, steps_told_join}
-use Rattle.bus.specs.LivelyBuses.{most_accesses}
+use Rattle.adapter.specs.LivelyBuses.{most_accesses}
 use Rattle.stations.specs.AtomicRuns.{LeadsTo, counted_of, is_go, past_at, steps_told}
 use Rattle.stations.specs.LentBuses.{HappenedLent, SameLent}
 use Rattle.stations.specs.declared.lent_bus.LentBus.{LentBus}

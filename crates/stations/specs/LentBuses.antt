@@ -1,13 +1,13 @@
 -- The state of a lent bus, and what happened between two of its states (our choice).
 use Rattle.std.specs.Prelude.{◌≡◌, ◌+◌, ℕ, List, [], length, map, min}
 use Rattle.adapter.specs.World.{World}
-use Rattle.bus.specs.Pasts.{Past}
-use Rattle.bus.specs.TickGroups.{behind_group, group_of, played_in, waiting_after, without_go}
+use Rattle.adapter.specs.Pasts.{Past}
+use Rattle.adapter.specs.TickGroups.{behind_group, group_of, played_in, waiting_after, without_go}
 use Rattle.stations.specs.AtomicSteps.{AtomicStep, Watched, tick_of, watched}
 use Rattle.stations.specs.declared.observer.Observer.{Ghosts as OfObserver}
 use Rattle.stations.specs.Stations.{world_at}
 use Rattle.stations.specs.declared.tick.Tick.TheVariants.{Go}
-use Rattle.bus.specs.LivelyBuses.{most_accesses}
+use Rattle.adapter.specs.LivelyBuses.{most_accesses}
 use Rattle.stations.specs.AtomicRuns.{LeadsTo, counted_of, is_go, past_at, steps_told}
 use Rattle.stations.specs.PlayedTicks.{PlaysTicks}
 use Rattle.stations.specs.declared.lent_bus.LentBus.{LentBus}

@@ -1,12 +1,12 @@
 -- The states of the stations of a network, and how an event at one host changes the stations of all hosts (our choice).
 use Rattle.std.specs.Prelude.{◌≡◌, ◌≢◌, ◌<◌, ◌==◌, ◌&&◌, not, ℕ, suc, Option, Some, None, List, [], ◌∷◌, ◌++◌, drop, length, slice_get}
 use Rattle.std.specs.Prelude.{if◌then◌else◌}
-use Rattle.registers.specs.declared.phy.Link.TheVariants.{Never}
+use Rattle.mdic_phy.specs.declared.phy.Link.TheVariants.{Never}
 use Rattle.adapter.specs.Registers.{new_adapter}
 use Rattle.adapter.specs.World.{World}
-use Rattle.bus.specs.Trails.{past_of_event, world_after}
-use Rattle.bus.specs.declared.event.Event.{Event}
-use Rattle.bus.specs.declared.event.Event.TheVariants.{Accesses, Arrives, Steps}
+use Rattle.adapter.specs.Trails.{past_of_event, world_after}
+use Rattle.adapter.specs.bus_types.event.Event.{Event}
+use Rattle.adapter.specs.bus_types.event.Event.TheVariants.{Accesses, Arrives, Steps}
 use Rattle.stations.specs.Ends.{end_frames}
 
 -- A host's adapter and memory, and its end of a wire.

@@ -1,7 +1,7 @@
 -- How `Stations` stores the stations (our choice): the machines of all hosts in one list, and the hosts' ends of wires
 -- in another list.
 use Rattle.std.specs.Prelude.{◌≡◌, List, [], ◌∷◌, length}
-use Rattle.bus.specs.Machines.{MachineState}
+use Rattle.adapter.specs.Machines.{MachineState}
 use Rattle.stations.specs.Ends.{EndState}
 use Rattle.stations.specs.Stations.{StationState}
 use Rattle.stations.specs.declared.stations.Stations.TheInside.{Inside}

@@ -4,7 +4,7 @@ ghost use Rattle.std.specs.Prelude.{min};
 
 use crate::lent_bus::LentBus;
 use crate::observer::Observer;
-use bus::{Bus, HonestBus};
+use adapter::{Bus, HonestBus};
 
 impl<'a, 't, O: Observer> Bus for LentBus<'a, 't, O> {
     ghost use Rattle.std.specs.Prelude.{⊤};
@@ -63,7 +63,7 @@ impl<'a, 't, O: Observer> Bus for LentBus<'a, 't, O> {
 
 impl<'a, 't, O: Observer> HonestBus for LentBus<'a, 't, O> {
     ghost use Rattle.std.specs.Prelude.{min};
-    ghost use Rattle.bus.specs.LivelyBuses.{most_accesses};
+    ghost use Rattle.adapter.specs.LivelyBuses.{most_accesses};
     ghost use Rattle.stations.specs.LentBusLaws.{lent_happened_count};
 
     // `min`: in contracts, the field may be any natural number, also one that is too large for a `u64`.

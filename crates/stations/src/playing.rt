@@ -1,8 +1,8 @@
 // How ticks are played on the stations of a network.
 
 ghost use Rattle.std.specs.Prelude.{◌≡◌, ◌<◌, ◌≤◌, length};
-ghost use Rattle.adapter.specs.declared.step.StepKind.TheVariants.{TxPut};
-ghost use Rattle.bus.specs.TickGroups.{behind_group, group_of, without_go};
+ghost use Rattle.adapter.specs.model_types.step.StepKind.TheVariants.{TxPut};
+ghost use Rattle.adapter.specs.TickGroups.{behind_group, group_of, without_go};
 ghost use Rattle.stations.specs.AtomicRuns.{is_go};
 ghost use Rattle.stations.specs.AtomicSteps.{PlaysNoted, watched};
 ghost use Rattle.stations.specs.PlayedTicks.{PlaysTicks};

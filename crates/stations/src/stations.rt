@@ -2,8 +2,7 @@
 
 use crate::wire_log::LOG_ENTRIES;
 use crate::wires::Wires;
-use adapter::{FrameCounts, Outcome, StepKind};
-use bus::Machine;
+use adapter::{FrameCounts, Machine, Outcome, StepKind};
 use descriptors::Frame;
 use std::alloc::{AllocError, Global};
 use std::marker::Model;
@@ -42,10 +41,10 @@ impl Stations {
     ghost use Rattle.adapter.specs.Pending.{CanReadHeld, CanReadSending};
     ghost use Rattle.adapter.specs.Registers.{answer_at};
     ghost use Rattle.adapter.specs.State.{IsAdapter};
-    ghost use Rattle.adapter.specs.declared.step.StepKind.TheVariants.{TxPut};
-    ghost use Rattle.bus.specs.Trails.{Occurs};
-    ghost use Rattle.bus.specs.declared.event.Access.TheVariants.{Reads, Stores, Writes};
-    ghost use Rattle.bus.specs.declared.event.Event.TheVariants.{Accesses, Steps};
+    ghost use Rattle.adapter.specs.model_types.step.StepKind.TheVariants.{TxPut};
+    ghost use Rattle.adapter.specs.Trails.{Occurs};
+    ghost use Rattle.adapter.specs.bus_types.event.Access.TheVariants.{Reads, Stores, Writes};
+    ghost use Rattle.adapter.specs.bus_types.event.Event.TheVariants.{Accesses, Steps};
     ghost use Rattle.dma_memory.specs.HostMemory.{LiesIn};
     ghost use Rattle.registers.specs.Bits.{Meet};
     ghost use Rattle.stations.specs.Stations.{backlog_at, stations_after, world_at};

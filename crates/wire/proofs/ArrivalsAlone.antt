@@ -1,19 +1,19 @@
 -- Over a lively bus no frame arrives, and the adapter changes only by accesses and by ticks of its EEPROM and PHY.
 use Rattle.std.proofs.Common.{◌++◌, ◌∷◌, [], All, ℕ, List, refl, sym, ap, subst, ◌∙◌, arith}
-use Rattle.registers.specs.declared.phy.Link.{Link}
+use Rattle.mdic_phy.specs.declared.phy.Link.{Link}
 use Rattle.adapter.specs.Outcomes.{FrameOutcome}
 use Rattle.adapter.specs.World.{World}
-use Rattle.adapter.specs.declared.step.StepKind.{StepKind}
-use Rattle.adapter.specs.declared.step.StepKind.TheVariants.{TxTake, TxPut, RxData, RxDone, EepromTick, PhyTick}
-use Rattle.bus.specs.LivelyBuses.{IsQuietEvent, Lives, machine_world}
-use Rattle.bus.specs.Pasts.{Past, joined}
-use Rattle.bus.specs.Settings.{NoArrival}
-use Rattle.bus.specs.StepsAndArrivals.{past_of_step}
-use Rattle.bus.specs.Trails.{Trail, past_of, world_after}
-use Rattle.bus.specs.declared.event.Event.{Event}
-use Rattle.bus.specs.declared.event.Event.TheVariants.{Accesses, Arrives, Steps}
-use Rattle.bus.specs.declared.lively_bus.LivelyBus.{LivelyBus}
-use Rattle.bus.proofs.Lists.{all-head, all-tail}
+use Rattle.adapter.specs.model_types.step.StepKind.{StepKind}
+use Rattle.adapter.specs.model_types.step.StepKind.TheVariants.{TxTake, TxPut, RxData, RxDone, EepromTick, PhyTick}
+use Rattle.adapter.specs.LivelyBuses.{IsQuietEvent, Lives, machine_world}
+use Rattle.adapter.specs.Pasts.{Past, joined}
+use Rattle.adapter.specs.Settings.{NoArrival}
+use Rattle.adapter.specs.StepsAndArrivals.{past_of_step}
+use Rattle.adapter.specs.Trails.{Trail, past_of, world_after}
+use Rattle.adapter.specs.bus_types.event.Event.{Event}
+use Rattle.adapter.specs.bus_types.event.Event.TheVariants.{Accesses, Arrives, Steps}
+use Rattle.adapter.specs.bus_types.lively_bus.LivelyBus.{LivelyBus}
+use Rattle.adapter.proofs.Lists.{all-head, all-tail}
 use Rattle.wire.proofs.OwnTicks.{IsAdapterOf, access-leaves, phy-tick-leaves}
 
 step-none : (kind : StepKind) (answer : FrameOutcome) → NoArrival (past_of_step kind answer)

@@ -5,9 +5,9 @@ use Rattle.std.specs.Prelude.{Err, Ok}
 use Rattle.std.proofs.lemmas.Bool.Decides.{eqb_tells}
 use Rattle.std.proofs.lemmas.List.{append-nil}
 use Rattle.adapter.specs.World.{World}
-use Rattle.bus.proofs.Lists.{all-none}
-use Rattle.bus.specs.TickGroups.{without_go}
-use Rattle.bus.specs.declared.event.Access.{Access}
+use Rattle.adapter.proofs.Lists.{all-none}
+use Rattle.adapter.specs.TickGroups.{without_go}
+use Rattle.adapter.specs.bus_types.event.Access.{Access}
 use Rattle.stations.specs.AtomicRuns.{LeadsTo, is_go, noted_of, past_at}
 use Rattle.stations.specs.AtomicSteps.{AtomicStep, tick_of}
 use Rattle.stations.specs.Stations.{StationState, world_at}

@@ -3,28 +3,28 @@
 use Rattle.std.specs.Prelude.{bit_and, nat_lt}
 use Rattle.std.proofs.Common.{◌≡◌, ◌||◌, ◌∷◌, [], ◌∙◌, Bool, true, false, ℕ, List, Option, Some, None, if◌then◌else◌, ap, refl, sym, subst}
 use Rattle.std.specs.List.{All}
-use Rattle.registers.specs.declared.mdic.Ticked.{Ticked}
-use Rattle.registers.specs.Mdic.{told}
+use Rattle.mdic_phy.specs.declared.mdic.Ticked.{Ticked}
+use Rattle.mdic_phy.specs.Mdic.{told}
 use Rattle.registers.specs.Bits.{union}
 use Rattle.adapter.specs.Registers.{after_reset, by_row, by_rule, is_reset, left_by_read, left_by_write, with_register}
 use Rattle.adapter.specs.State.{AdapterState}
 use Rattle.adapter.specs.Steps.{after_phy_told, causes_told}
 use Rattle.adapter.specs.Table.{register_at, row_of}
 use Rattle.adapter.specs.World.{World}
-use Rattle.adapter.specs.declared.register.Register.{Register}
-use Rattle.adapter.specs.declared.register.Register.TheVariants.{Ctrl, Eerd, Icr, Ics}
-use Rattle.adapter.specs.declared.step.StepKind.TheVariants.{EepromTick, PhyTick}
-use Rattle.bus.specs.LivelyBuses.{IsQuietEvent, Lives, machine_world}
-use Rattle.bus.specs.Pasts.{Past}
-use Rattle.bus.specs.Settings.{Write, writes_in}
-use Rattle.bus.specs.Trails.{Trail, past_of, past_of_event, world_after, world_after_access}
-use Rattle.bus.specs.declared.event.Access.{Access}
-use Rattle.bus.specs.declared.event.Access.TheVariants.{Loads, Reads, Stores, Writes}
-use Rattle.bus.specs.declared.event.Event.{Event}
-use Rattle.bus.specs.declared.event.Event.TheVariants.{Accesses, Steps}
-use Rattle.bus.specs.declared.lively_bus.LivelyBus.{LivelyBus}
-use Rattle.bus.proofs.Lists.{all-head, all-left, all-right, all-tail}
-use Rattle.bus.proofs.Settings.{writes-append}
+use Rattle.adapter.specs.model_types.register.Register.{Register}
+use Rattle.adapter.specs.model_types.register.Register.TheVariants.{Ctrl, Eerd, Icr, Ics}
+use Rattle.adapter.specs.model_types.step.StepKind.TheVariants.{EepromTick, PhyTick}
+use Rattle.adapter.specs.LivelyBuses.{IsQuietEvent, Lives, machine_world}
+use Rattle.adapter.specs.Pasts.{Past}
+use Rattle.adapter.specs.Settings.{Write, writes_in}
+use Rattle.adapter.specs.Trails.{Trail, past_of, past_of_event, world_after, world_after_access}
+use Rattle.adapter.specs.bus_types.event.Access.{Access}
+use Rattle.adapter.specs.bus_types.event.Access.TheVariants.{Loads, Reads, Stores, Writes}
+use Rattle.adapter.specs.bus_types.event.Event.{Event}
+use Rattle.adapter.specs.bus_types.event.Event.TheVariants.{Accesses, Steps}
+use Rattle.adapter.specs.bus_types.lively_bus.LivelyBus.{LivelyBus}
+use Rattle.adapter.proofs.Lists.{all-head, all-left, all-right, all-tail}
+use Rattle.adapter.proofs.Settings.{writes-append}
 use Rattle.bring_up.specs.SettingSteps.{IsNotOfCauses, RecordsNoCause, RecordsNone}
 use Rattle.wire.specs.HostsUp.{AreOfPhy, HasNoInterrupt}
 

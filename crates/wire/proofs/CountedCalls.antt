@@ -10,20 +10,20 @@ use Rattle.descriptors.specs.Ring.{HasValidIndices}
 use Rattle.adapter.specs.Table.{register_at}
 use Rattle.adapter.specs.TableLaws.{register_at-mta, register_at-there}
 use Rattle.adapter.specs.World.{World, receive_ring, transmit_ring}
-use Rattle.adapter.specs.declared.offsets.TheConstants.{RDT, TDT}
-use Rattle.adapter.specs.declared.register.Register.{Register}
-use Rattle.adapter.specs.declared.register.Register.TheVariants.{Mta, Receive, Transmit}
-use Rattle.adapter.specs.declared.register.RingRegister.TheVariants.{Tail}
-use Rattle.bus.proofs.Lists.{all-weaker}
-use Rattle.bus.specs.Accesses.{IsNoReset, ResetsNothing}
-use Rattle.bus.specs.Trails.{Trail, past_of}
-use Rattle.bus.specs.declared.event.Access.{Access}
-use Rattle.bus.specs.declared.event.Access.TheVariants.{Loads, Reads, Stores, Writes}
-use Rattle.bus.specs.declared.event.Event.{Event}
+use Rattle.adapter.specs.model_types.offsets.TheConstants.{RDT, TDT}
+use Rattle.adapter.specs.model_types.register.Register.{Register}
+use Rattle.adapter.specs.model_types.register.Register.TheVariants.{Mta, Receive, Transmit}
+use Rattle.adapter.specs.model_types.register.RingRegister.TheVariants.{Tail}
+use Rattle.adapter.proofs.Lists.{all-weaker}
+use Rattle.adapter.specs.Accesses.{IsNoReset, ResetsNothing}
+use Rattle.adapter.specs.Trails.{Trail, past_of}
+use Rattle.adapter.specs.bus_types.event.Access.{Access}
+use Rattle.adapter.specs.bus_types.event.Access.TheVariants.{Loads, Reads, Stores, Writes}
+use Rattle.adapter.specs.bus_types.event.Event.{Event}
 use Rattle.stations.specs.AtomicRuns.{LeadsTo, past_at}
 use Rattle.stations.specs.AtomicSteps.{AtomicStep}
 use Rattle.stations.specs.Stations.{StationState, world_at}
-use Rattle.bus.proofs.Places.{place-below}
+use Rattle.adapter.proofs.Places.{place-below}
 use Rattle.packet_socket.specs.HostActs.{IsGroupWrite, IsOfDriver, IsOfHost, IsTailWrite}
 use Rattle.packet_socket.specs.HostCalls.{HostReady}
 use Rattle.packet_socket.specs.HostState.{HostState}

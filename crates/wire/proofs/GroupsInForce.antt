@@ -8,19 +8,19 @@ use Rattle.std.proofs.lemmas.List.{append-nil}
 use Rattle.std.proofs.lemmas.List.Elements.{All-append, All-cons}
 use Rattle.registers.specs.Bits.{HasBit}
 use Rattle.registers.specs.Places.{rctl_en}
-use Rattle.rx_engine.specs.NumberTables.{HasNumbers, numbers_of_groups}
-use Rattle.rx_engine.specs.Registers.{FilterRegisters}
+use Rattle.rx_filter.specs.NumberTables.{HasNumbers, numbers_of_groups}
+use Rattle.rx_filter.specs.Registers.{FilterRegisters}
 use Rattle.adapter.specs.State.{AdapterState}
 use Rattle.adapter.specs.World.{World, world_after_write}
-use Rattle.bus.proofs.Lists.{all-head, all-none, all-tail, all-weaker}
-use Rattle.bus.specs.Pasts.{Past}
-use Rattle.bus.specs.TickGroups.{without_go}
-use Rattle.bus.specs.Trails.{past_of}
-use Rattle.bus.specs.declared.event.Access.{Access}
-use Rattle.bus.specs.declared.event.Access.TheVariants.{Loads, Reads, Stores, Writes}
-use Rattle.bus.specs.declared.event.Event.TheVariants.{Accesses, Arrives, Steps}
+use Rattle.adapter.proofs.Lists.{all-head, all-none, all-tail, all-weaker}
+use Rattle.adapter.specs.Pasts.{Past}
+use Rattle.adapter.specs.TickGroups.{without_go}
+use Rattle.adapter.specs.Trails.{past_of}
+use Rattle.adapter.specs.bus_types.event.Access.{Access}
+use Rattle.adapter.specs.bus_types.event.Access.TheVariants.{Loads, Reads, Stores, Writes}
+use Rattle.adapter.specs.bus_types.event.Event.TheVariants.{Accesses, Arrives, Steps}
 use Rattle.bring_up.specs.ConfiguredAdapters.{AreWords, FilterHasSetup, HasSetup}
-use Rattle.bus.specs.DriverState.{DriverSetup}
+use Rattle.adapter.specs.DriverState.{DriverSetup}
 use Rattle.dma_memory.specs.Layout.{Counts}
 use Rattle.bring_up.specs.Groups.{HasTable, SetsTable, WritesWord, word_of}
 use Rattle.stations.proofs.HostTrails.{world-here}
@@ -71,8 +71,8 @@ same-setup setup other a b filter kilobytes same has =
 
 tail-leaves : (counts : Counts) (offset value : ℕ) → IsTailWrite counts offset value → LeavesReception (Writes offset value)
 tail-leaves counts offset value is = tails-leave_reception offset value
-    (⊎_elim (λ (receive : (offset ≡ Rattle.adapter.specs.declared.offsets.TheConstants.RDT) × (value < counts.rx)). inl receive.0)
-    (λ (transmit : (offset ≡ Rattle.adapter.specs.declared.offsets.TheConstants.TDT) × (value < counts.tx)). inr transmit.0) is)
+    (⊎_elim (λ (receive : (offset ≡ Rattle.adapter.specs.model_types.offsets.TheConstants.RDT) × (value < counts.rx)). inl receive.0)
+    (λ (transmit : (offset ≡ Rattle.adapter.specs.model_types.offsets.TheConstants.TDT) × (value < counts.tx)). inr transmit.0) is)
 
 leaves : (counts : Counts) (access : Access) → IsOfDriver counts access → LeavesReception access
 leaves counts (Reads offset value) is = tt

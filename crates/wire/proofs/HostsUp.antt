@@ -9,20 +9,20 @@ use Rattle.descriptors.specs.Ring.{HasValidIndices, count_of}
 use Rattle.descriptors.specs.declared.ring.Ring.{Ring}
 use Rattle.registers.specs.Bits.{HasBit}
 use Rattle.registers.specs.Places.{tctl_en}
-use Rattle.registers.specs.Image.{HasRightSum, address_bytes}
-use Rattle.registers.specs.declared.phy.Link.{Link}
-use Rattle.registers.specs.declared.phy.Link.TheVariants.{Never}
-use Rattle.registers.specs.Phy.{PhyState, is_complete, link_is_up}
-use Rattle.rx_engine.specs.Addresses.{IsAddress}
+use Rattle.eeprom.specs.Image.{HasRightSum, address_bytes}
+use Rattle.mdic_phy.specs.declared.phy.Link.{Link}
+use Rattle.mdic_phy.specs.declared.phy.Link.TheVariants.{Never}
+use Rattle.mdic_phy.specs.Phy.{PhyState, is_complete, link_is_up}
+use Rattle.rx_filter.specs.Addresses.{IsAddress}
 use Rattle.adapter.specs.Registers.{new_adapter}
 use Rattle.adapter.specs.State.{AdapterState, IsAdapter}
 use Rattle.adapter.specs.World.{World, receive_ring, transmit_ring}
-use Rattle.bus.specs.Pasts.{Past}
-use Rattle.bus.specs.Settings.{settings_of, writes_in}
-use Rattle.bus.proofs.Lists.{all-left, all-right}
-use Rattle.bus.proofs.Settings.{writes-append}
-use Rattle.bus.specs.declared.event.Access.{Access}
-use Rattle.bus.specs.declared.bus.Bus.{Ghosts}
+use Rattle.adapter.specs.Pasts.{Past}
+use Rattle.adapter.specs.Settings.{settings_of, writes_in}
+use Rattle.adapter.proofs.Lists.{all-left, all-right}
+use Rattle.adapter.proofs.Settings.{writes-append}
+use Rattle.adapter.specs.bus_types.event.Access.{Access}
+use Rattle.adapter.specs.bus_types.bus.Bus.{Ghosts}
 use Rattle.bring_up.specs.Configuration.{IsValidIn, configured_counts}
 use Rattle.bring_up.specs.declared.config.Config.{Config}
 use Rattle.bring_up.specs.declared.init_error.InitError.{InitError}
@@ -33,17 +33,17 @@ use Rattle.bring_up.specs.ConfiguredAdapters.{IsConfigured, names_vlans}
 use Rattle.bring_up.specs.DriverSteps.{accesses_of}
 use Rattle.bring_up.specs.SettingSteps.{RecordsNone}
 use Rattle.bring_up.specs.WrittenRegisters.{mask_writes}
-use Rattle.bus.specs.Beginnings.{new_driver}
-use Rattle.bus.specs.DriverState.{DriverState, with_owners}
-use Rattle.bus.specs.ReadyDrivers.{Ready}
-use Rattle.bus.specs.Calls.{IsRefilled}
+use Rattle.adapter.specs.Beginnings.{new_driver}
+use Rattle.adapter.specs.DriverState.{DriverState, with_owners}
+use Rattle.adapter.specs.ReadyDrivers.{Ready}
+use Rattle.adapter.specs.Calls.{IsRefilled}
 use Rattle.driver.specs.Initialisation.{Initialises, IsErrorOfInit, transmit_accesses}
 use Rattle.bring_up.specs.Groups.{AreNamedOnce}
 use Rattle.packet_socket.specs.HostCalls.{HostReady}
 use Rattle.packet_socket.specs.HostState.{HostState, new_host}
 use Rattle.packet_socket.specs.declared.socket_kind.SocketKind.{SocketKind}
-use Rattle.bus.specs.LivelyBuses.{IsSameMachine, Lives, machine_bytes, machine_world}
-use Rattle.bus.specs.declared.lively_bus.LivelyBus.{LivelyBus}
+use Rattle.adapter.specs.LivelyBuses.{IsSameMachine, Lives, machine_bytes, machine_world}
+use Rattle.adapter.specs.bus_types.lively_bus.LivelyBus.{LivelyBus}
 use Rattle.stations.specs.Stations.{StationState}
 use Rattle.host_calls.specs.CountedHosts.{CanAnswer}
 use Rattle.network_plan.specs.declared.plan.HostPlan.{HostPlan}

@@ -10,13 +10,13 @@ use Rattle.descriptors.specs.Frames.{IsLegal, padded}
 use Rattle.descriptors.specs.Laws.{is_sendable-from_bounds, padded-legal}
 use Rattle.rx_engine.specs.declared.arrival.Fate.{Fate}
 use Rattle.rx_engine.specs.declared.arrival.Fate.TheVariants.{Filtered, Illegal, Missed, Off, Stored}
-use Rattle.rx_engine.specs.Passing.{ReceiveFilter}
-use Rattle.rx_engine.specs.Registers.{FilterRegisters}
+use Rattle.rx_filter.specs.Passing.{ReceiveFilter}
+use Rattle.rx_filter.specs.Registers.{FilterRegisters}
 use Rattle.adapter.specs.HostFrames.{frames_to_send}
 use Rattle.adapter.specs.Outcomes.{FrameOutcome}
 use Rattle.adapter.specs.World.{World}
-use Rattle.adapter.specs.declared.outcome.Outcome.TheVariants as outcome
-use Rattle.bus.proofs.Lists.{all-head, all-left, all-none, all-right, all-tail}
+use Rattle.adapter.specs.model_types.outcome.Outcome.TheVariants as outcome
+use Rattle.adapter.proofs.Lists.{all-head, all-left, all-none, all-right, all-tail}
 use Rattle.packet_socket.specs.CallEffects.{EffectOf, Interrupting, Joining, Leaving, Receiving, Request, Sending}
 use Rattle.packet_socket.specs.HostActs.{HostAct}
 use Rattle.packet_socket.specs.HostEffects.{IsSendable}

@@ -2,28 +2,28 @@
 -- GPTC.
 use Rattle.std.specs.Prelude.{bit_and}
 use Rattle.std.proofs.Common.{◌≡◌, ◌==◌, ◌&&◌, Bool, true, false, ℕ, Option, Some, None, if◌then◌else◌, ap, refl, ◌∙◌}
-use Rattle.registers.specs.declared.mdic.Operation.{Operation}
-use Rattle.registers.specs.declared.mdic.Operation.TheVariants.{Read, Write}
-use Rattle.registers.specs.declared.mdic.Ticked.{Ticked}
-use Rattle.registers.specs.declared.phy.Link.{Link}
-use Rattle.registers.specs.declared.phy.Link.TheVariants.{Never}
-use Rattle.registers.specs.declared.phy.Negotiation.{Negotiation}
-use Rattle.registers.specs.declared.phy.Negotiation.TheVariants.{NotStarted}
-use Rattle.registers.specs.Mdic.{data_bits, phy_ended, reaches_phy, regadd, told}
-use Rattle.registers.specs.Phy.{PhyState, after_control, phy_after_read, after_tick, phy_after_write}
-use Rattle.registers.specs.Phy.{counted_down, negotiation_of, new_phy, restarted}
-use Rattle.registers.specs.PhyPlaces.{control_enable, control_reset, control_restart}
+use Rattle.mdic_phy.specs.declared.mdic.Operation.{Operation}
+use Rattle.mdic_phy.specs.declared.mdic.Operation.TheVariants.{Read, Write}
+use Rattle.mdic_phy.specs.declared.mdic.Ticked.{Ticked}
+use Rattle.mdic_phy.specs.declared.phy.Link.{Link}
+use Rattle.mdic_phy.specs.declared.phy.Link.TheVariants.{Never}
+use Rattle.mdic_phy.specs.declared.phy.Negotiation.{Negotiation}
+use Rattle.mdic_phy.specs.declared.phy.Negotiation.TheVariants.{NotStarted}
+use Rattle.mdic_phy.specs.Mdic.{data_bits, phy_ended, reaches_phy, regadd, told}
+use Rattle.mdic_phy.specs.Phy.{PhyState, after_control, phy_after_read, after_tick, phy_after_write}
+use Rattle.mdic_phy.specs.Phy.{counted_down, negotiation_of, new_phy, restarted}
+use Rattle.mdic_phy.specs.PhyPlaces.{control_enable, control_reset, control_restart}
 use Rattle.registers.specs.Bits.{is_set}
 use Rattle.adapter.specs.Registers.{after_reset, by_row, by_rule, is_reset, left_by_read, left_by_write, with_register}
 use Rattle.adapter.specs.State.{AdapterState}
 use Rattle.adapter.specs.Steps.{after_phy_told, after_phy_tick}
 use Rattle.adapter.specs.Table.{register_at, row_of}
 use Rattle.adapter.specs.World.{World}
-use Rattle.adapter.specs.declared.register.Register.{Register}
-use Rattle.adapter.specs.declared.register.Register.TheVariants.{Ctrl, Eerd, Gprc, Gptc, Rnbc}
-use Rattle.bus.specs.Trails.{world_after_access}
-use Rattle.bus.specs.declared.event.Access.{Access}
-use Rattle.bus.specs.declared.event.Access.TheVariants.{Loads, Reads, Stores, Writes}
+use Rattle.adapter.specs.model_types.register.Register.{Register}
+use Rattle.adapter.specs.model_types.register.Register.TheVariants.{Ctrl, Eerd, Gprc, Gptc, Rnbc}
+use Rattle.adapter.specs.Trails.{world_after_access}
+use Rattle.adapter.specs.bus_types.event.Access.{Access}
+use Rattle.adapter.specs.bus_types.event.Access.TheVariants.{Loads, Reads, Stores, Writes}
 
 -- The link has the wanted setting. If this setting is Never, no negotiation has started.
 pub record ComesAs (wanted link : Link) (negotiation : Negotiation) : Type 0 where

@@ -1,16 +1,16 @@
 -- The filter of the registers after initialization has the sets and modes of the plan's filter.
 use Rattle.std.proofs.Common.{◌≡◌, ◌+◌, ◌↔◌, ◌∷◌, Bool, true, false, ℕ, List, replicate, refl, sym, subst, inl, inr, arith, rules}
 use Rattle.std.proofs.lemmas.List.{length-replicate}
-use Rattle.registers.specs.Image.{address_bytes}
+use Rattle.eeprom.specs.Image.{address_bytes}
 use Rattle.registers.specs.Bits.{HasBit, field}
 use Rattle.registers.specs.Places.{alone, rah_av, rctl_bam, rctl_en, rctl_mo, rctl_mpe, rctl_upe, rctl_vfe}
 use Rattle.registers.specs.ReceiveControl.{group_offset_of, shift_of}
-use Rattle.rx_engine.specs.Addresses.{IsAddress, high_word, low_word}
-use Rattle.rx_engine.specs.FilterLaws.{HasEntry-added, HasEntry-zeros, SameSets}
-use Rattle.rx_engine.specs.Registers.{HasEntry, filter_of}
+use Rattle.rx_filter.specs.Addresses.{IsAddress, high_word, low_word}
+use Rattle.rx_filter.specs.Laws.{HasEntry-added, HasEntry-zeros, SameSets}
+use Rattle.rx_filter.specs.Registers.{HasEntry, filter_of}
 use Rattle.bring_up.specs.ConfiguredAdapters.{IsConfigured, names_vlans}
 use Rattle.bring_up.specs.RingRegisters.{receive_control}
-use Rattle.bus.specs.Settings.{Settings}
+use Rattle.adapter.specs.Settings.{Settings}
 use Rattle.network_plan.specs.declared.plan.HostPlan.{HostPlan}
 use Rattle.wire.specs.Filters.{plans_filter}
 

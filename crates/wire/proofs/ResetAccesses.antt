@@ -6,20 +6,20 @@ use Rattle.std.specs.List.{All}
 use Rattle.std.proofs.lemmas.List.Elements.{All-append, All-cons}
 use Rattle.registers.specs.Places.{alone, rah_av}
 use Rattle.dma_memory.specs.Layout.{Counts}
-use Rattle.rx_engine.specs.Addresses.{high_word, low_word}
-use Rattle.adapter.specs.declared.offsets.TheConstants.{CTRL, MTA, PBA, RAL, RCTL, RDBAL, RDT, TCTL, TDBAL, VFTA}
-use Rattle.bus.proofs.Lists.{all-head, all-none, all-tail}
-use Rattle.bus.specs.Settings.{Write}
-use Rattle.bus.specs.declared.event.Access.{Access}
-use Rattle.bus.specs.declared.event.Access.TheVariants.{Loads, Reads, Stores, Writes}
+use Rattle.rx_filter.specs.Addresses.{high_word, low_word}
+use Rattle.adapter.specs.model_types.offsets.TheConstants.{CTRL, MTA, PBA, RAL, RCTL, RDBAL, RDT, TCTL, TDBAL, VFTA}
+use Rattle.adapter.proofs.Lists.{all-head, all-none, all-tail}
+use Rattle.adapter.specs.Settings.{Write}
+use Rattle.adapter.specs.bus_types.event.Access.{Access}
+use Rattle.adapter.specs.bus_types.event.Access.TheVariants.{Loads, Reads, Stores, Writes}
 use Rattle.bring_up.specs.ClearedDescriptors.{clears, clears_from}
 use Rattle.bring_up.specs.DriverSteps.{accesses_of}
 use Rattle.bring_up.specs.FilterTables.{address_writes, empty_entries, entry_writes, table_writes}
 use Rattle.bring_up.specs.RingRegisters.{ring_setup_writes, transmit_control, transmit_writes}
 use Rattle.bring_up.specs.WrittenRegisters.{allocation_writes, link_control, enable_link_writes, register_limit, write_at}
-use Rattle.bus.specs.Calls.{stores_from}
-use Rattle.bus.specs.ReadyDrivers.{empty_descriptor}
-use Rattle.bus.specs.DriverState.{DriverSetup, buffer_at, receive_slot}
+use Rattle.adapter.specs.Calls.{stores_from}
+use Rattle.adapter.specs.ReadyDrivers.{empty_descriptor}
+use Rattle.adapter.specs.DriverState.{DriverSetup, buffer_at, receive_slot}
 use Rattle.driver.specs.Resetting.{free_accesses, quiet_writes}
 
 -- the access is a read, a load, a store, or a write of an offset beyond RCTL

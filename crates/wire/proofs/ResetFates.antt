@@ -7,22 +7,22 @@ use Rattle.std.proofs.lemmas.Bool.{eq-eqb}
 use Rattle.std.proofs.lemmas.List.Elements.{All-append, All-cons}
 use Rattle.registers.specs.Bits.{HasBit}
 use Rattle.registers.specs.Places.{alone, ctrl_rst, rctl_en}
-use Rattle.rx_engine.specs.NumberTables.{HasNumbers, numbers_of_groups}
-use Rattle.rx_engine.specs.Registers.{FilterRegisters}
+use Rattle.rx_filter.specs.NumberTables.{HasNumbers, numbers_of_groups}
+use Rattle.rx_filter.specs.Registers.{FilterRegisters}
 use Rattle.adapter.specs.Receiving.{room}
 use Rattle.adapter.specs.Table.{register_at}
 use Rattle.adapter.specs.World.{World}
-use Rattle.adapter.specs.declared.offsets.TheConstants.{CTRL, ICR, IMC, IMS, RCTL, TCTL, TDBAL}
+use Rattle.adapter.specs.model_types.offsets.TheConstants.{CTRL, ICR, IMC, IMS, RCTL, TCTL, TDBAL}
 use Rattle.adapter.specs.TableLaws.{register_at-only}
-use Rattle.adapter.specs.declared.register.Register.{Register}
-use Rattle.adapter.specs.declared.register.Register.TheVariants.{Rctl}
+use Rattle.adapter.specs.model_types.register.Register.{Register}
+use Rattle.adapter.specs.model_types.register.Register.TheVariants.{Rctl}
 use Rattle.dma_memory.specs.Layout.{Counts}
-use Rattle.bus.proofs.Lists.{all-head, all-none, all-tail}
-use Rattle.bus.specs.Settings.{IsNotReceiveControl, IsOff, LeavesReceiver, writes_in}
-use Rattle.bus.specs.Trails.{world_after_access}
-use Rattle.bus.specs.declared.event.Access.{Access}
-use Rattle.bus.specs.declared.event.Access.TheVariants.{Loads, Reads, Stores, Writes}
-use Rattle.bus.specs.declared.event.Event.TheVariants.{Accesses}
+use Rattle.adapter.proofs.Lists.{all-head, all-none, all-tail}
+use Rattle.adapter.specs.Settings.{IsNotReceiveControl, IsOff, LeavesReceiver, writes_in}
+use Rattle.adapter.specs.Trails.{world_after_access}
+use Rattle.adapter.specs.bus_types.event.Access.{Access}
+use Rattle.adapter.specs.bus_types.event.Access.TheVariants.{Loads, Reads, Stores, Writes}
+use Rattle.adapter.specs.bus_types.event.Event.TheVariants.{Accesses}
 use Rattle.stations.proofs.HostTrails.{world-here}
 use Rattle.stations.specs.AtomicRuns.{LeadsTo, past_at}
 use Rattle.stations.specs.AtomicSteps.{At, AtomicStep, after_atomic}
@@ -39,7 +39,7 @@ use Rattle.bring_up.specs.ClearedDescriptors.{clears, clears_from}
 use Rattle.bring_up.specs.DriverSteps.{accesses_of}
 use Rattle.bring_up.specs.RingRegisters.{receive_control, ring_setup_writes, transmit_control, transmit_writes}
 use Rattle.bring_up.specs.WrittenRegisters.{handled_causes, link_control, mask_writes, register_limit}
-use Rattle.bus.specs.DriverState.{DriverSetup, DriverState}
+use Rattle.adapter.specs.DriverState.{DriverSetup, DriverState}
 use Rattle.driver.specs.Resetting.{free_accesses, later_accesses, quiet_writes}
 use Rattle.bring_up.proofs.Words.{tables-agree}
 use Rattle.packet_socket.specs.HostState.{HostState}

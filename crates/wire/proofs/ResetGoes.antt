@@ -10,7 +10,7 @@ use Rattle.stations.proofs.HostTrails.{trail-of}
 use Rattle.stations.proofs.Lengths.{length-stays}
 use Rattle.stations.specs.AtomicRuns.{LeadsTo, events_at, past_at}
 use Rattle.bring_up.specs.ConfiguredAdapters.{HasSetup}
-use Rattle.bus.specs.DriverState.{DriverSetup, DriverState}
+use Rattle.adapter.specs.DriverState.{DriverSetup, DriverState}
 use Rattle.bring_up.specs.Groups.{HasTable}
 use Rattle.packet_socket.specs.HostCalls.{host_did}
 use Rattle.packet_socket.specs.HostState.{HostState}

@@ -8,8 +8,8 @@ use Rattle.std.proofs.lemmas.List.{append-nil}
 use Rattle.std.proofs.lemmas.List.Sums.{sum_by-append, sum_by-cons}
 use Rattle.descriptors.specs.Frames.{padded}
 use Rattle.adapter.specs.HostFrames.{frames_held, frames_to_send}
-use Rattle.bus.specs.Pasts.{Past}
-use Rattle.bus.specs.DriverState.{DriverSetup, DriverState}
+use Rattle.adapter.specs.Pasts.{Past}
+use Rattle.adapter.specs.DriverState.{DriverSetup, DriverState}
 use Rattle.stations.specs.AtomicRunLaws.{past_join}
 use Rattle.stations.specs.AtomicRuns.{LeadsTo, past_at}
 use Rattle.stations.specs.AtomicSteps.{AtomicStep, after_atomic}

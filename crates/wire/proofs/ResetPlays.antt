@@ -9,10 +9,10 @@ use Rattle.std.proofs.lemmas.Option.{slice_get_past}
 use Rattle.circular_buffer.proofs.Places.{slice_get-set_other}
 use Rattle.dma_memory.specs.Layout.{Counts, IsAllowed}
 use Rattle.adapter.specs.HostFrames.{frames_held}
-use Rattle.bus.specs.LivelyBuses.{most_accesses}
-use Rattle.bus.specs.TickGroups.{without_go}
-use Rattle.bus.specs.declared.event.Access.{Access}
-use Rattle.bus.specs.DriverState.{DriverSetup}
+use Rattle.adapter.specs.LivelyBuses.{most_accesses}
+use Rattle.adapter.specs.TickGroups.{without_go}
+use Rattle.adapter.specs.bus_types.event.Access.{Access}
+use Rattle.adapter.specs.DriverState.{DriverSetup}
 use Rattle.stations.specs.AtomicRunLaws.{counted_join}
 use Rattle.stations.specs.AtomicRuns.{LeadsTo, counted_of, is_go, noted_of, steps_told}
 use Rattle.stations.specs.AtomicSteps.{AtomicStep, after_atomic, tick_of, watched}

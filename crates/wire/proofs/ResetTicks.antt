@@ -13,21 +13,21 @@ use Rattle.adapter.specs.Outcomes.{FrameOutcome}
 use Rattle.adapter.specs.Table.{register_at}
 use Rattle.adapter.specs.TableLaws.{register_at-only}
 use Rattle.adapter.specs.World.{World}
-use Rattle.adapter.specs.declared.offsets.TheConstants.{CTRL, ICR, IMC, IMS, MPC, RCTL, TDBAL}
-use Rattle.adapter.specs.declared.register.Register.{Register}
-use Rattle.adapter.specs.declared.register.Register.TheVariants.{Ctrl, Eerd, Mdic, Rctl, Receive, Tctl, Transmit}
-use Rattle.adapter.specs.declared.step.StepKind.{StepKind}
-use Rattle.adapter.specs.declared.step.StepKind.TheVariants.{EepromTick, PhyTick, RxData, RxDone, TxPut, TxTake}
-use Rattle.bus.proofs.Lists.{all-none, all-weaker}
-use Rattle.bus.specs.Accesses.{IsNoReset, ResetsNothing}
-use Rattle.bus.specs.Pasts.{Past}
-use Rattle.bus.specs.StepsAndArrivals.{past_of_step}
-use Rattle.bus.specs.TrailFaults.{EnginesRun}
-use Rattle.bus.specs.Trails.{past_of}
-use Rattle.bus.specs.declared.event.Access.{Access}
-use Rattle.bus.specs.declared.event.Access.TheVariants.{Loads, Reads, Stores, Writes}
-use Rattle.bus.specs.declared.event.Event.{Event}
-use Rattle.bus.specs.declared.event.Event.TheVariants.{Accesses, Arrives, Steps}
+use Rattle.adapter.specs.model_types.offsets.TheConstants.{CTRL, ICR, IMC, IMS, MPC, RCTL, TDBAL}
+use Rattle.adapter.specs.model_types.register.Register.{Register}
+use Rattle.adapter.specs.model_types.register.Register.TheVariants.{Ctrl, Eerd, Mdic, Rctl, Receive, Tctl, Transmit}
+use Rattle.adapter.specs.model_types.step.StepKind.{StepKind}
+use Rattle.adapter.specs.model_types.step.StepKind.TheVariants.{EepromTick, PhyTick, RxData, RxDone, TxPut, TxTake}
+use Rattle.adapter.proofs.Lists.{all-none, all-weaker}
+use Rattle.adapter.specs.Accesses.{IsNoReset, ResetsNothing}
+use Rattle.adapter.specs.Pasts.{Past}
+use Rattle.adapter.specs.StepsAndArrivals.{past_of_step}
+use Rattle.adapter.specs.TrailFaults.{EnginesRun}
+use Rattle.adapter.specs.Trails.{past_of}
+use Rattle.adapter.specs.bus_types.event.Access.{Access}
+use Rattle.adapter.specs.bus_types.event.Access.TheVariants.{Loads, Reads, Stores, Writes}
+use Rattle.adapter.specs.bus_types.event.Event.{Event}
+use Rattle.adapter.specs.bus_types.event.Event.TheVariants.{Accesses, Arrives, Steps}
 use Rattle.stations.proofs.HostTrails.{trail-of}
 use Rattle.stations.specs.AtomicRunLaws.{leads_join, past_join}
 use Rattle.stations.specs.AtomicRuns.{LeadsTo, events_at, past_at}
@@ -37,7 +37,7 @@ use Rattle.bring_up.specs.ClearedDescriptors.{clears, clears_from}
 use Rattle.bring_up.specs.DriverSteps.{accesses_of}
 use Rattle.bring_up.specs.RingRegisters.{receive_control, ring_setup_writes, transmit_writes}
 use Rattle.bring_up.specs.WrittenRegisters.{handled_causes, link_control, mask_writes}
-use Rattle.bus.specs.DriverState.{DriverSetup}
+use Rattle.adapter.specs.DriverState.{DriverSetup}
 use Rattle.driver.specs.Resetting.{free_accesses, later_accesses, quiet_writes}
 use Rattle.packet_socket.specs.HostCalls.{HostReady}
 use Rattle.packet_socket.specs.HostState.{HostState}

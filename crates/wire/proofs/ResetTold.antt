@@ -5,12 +5,12 @@ use Rattle.std.specs.Prelude.{nat_le, nat_lt}
 use Rattle.std.proofs.lemmas.Bool.{eq-eqb, le-leb, lt-leb, lt-ltb}
 use Rattle.std.proofs.lemmas.List.{append-nil}
 use Rattle.std.proofs.lemmas.Bool.Decides.{eqb_tells}
-use Rattle.bus.specs.LivelyBuses.{most_accesses}
-use Rattle.bus.specs.TickGroups.{without_go}
-use Rattle.bus.specs.Trails.{past_of}
-use Rattle.bus.specs.declared.event.Access.{Access}
-use Rattle.bus.specs.declared.event.Event.TheVariants.{Accesses, Arrives, Steps}
-use Rattle.bus.specs.DriverState.{DriverSetup}
+use Rattle.adapter.specs.LivelyBuses.{most_accesses}
+use Rattle.adapter.specs.TickGroups.{without_go}
+use Rattle.adapter.specs.Trails.{past_of}
+use Rattle.adapter.specs.bus_types.event.Access.{Access}
+use Rattle.adapter.specs.bus_types.event.Event.TheVariants.{Accesses, Arrives, Steps}
+use Rattle.adapter.specs.DriverState.{DriverSetup}
 use Rattle.stations.specs.AtomicRuns.{LeadsTo, counted_of, events_at, is_go, noted_of, past_at}
 use Rattle.stations.specs.AtomicSteps.{At, AtomicStep, Idles, tick_of}
 use Rattle.stations.specs.Stations.{StationState}

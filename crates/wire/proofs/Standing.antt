@@ -12,8 +12,8 @@ use Rattle.stations.specs.AtomicSteps.{AtomicStep}
 use Rattle.stations.specs.Stations.{StationState, wire_at, world_at}
 use Rattle.stations.proofs.HostTrails.{trail-of}
 use Rattle.stations.specs.AtomicRuns.{LeadsTo, events_at, past_at}
-use Rattle.bus.proofs.FramesCounted.{slots_have_frames}
-use Rattle.bus.specs.Calls.{HasNoForgottenWork, IsRefilled}
+use Rattle.adapter.proofs.FramesCounted.{slots_have_frames}
+use Rattle.adapter.specs.Calls.{HasNoForgottenWork, IsRefilled}
 use Rattle.packet_socket.specs.HostCalls.{Given, HostReady, host_did, driver_of}
 use Rattle.packet_socket.specs.HostState.{HostState}
 use Rattle.stations.proofs.Lengths.{length-stays}

@@ -1,16 +1,16 @@
 -- `TickPlayed` for a tick outside a call.
 use Rattle.std.proofs.Common.{◌≡◌, ◌≢◌, ◌∷◌, [], false, List, refl, sym, ap, subst, ◌∙◌}
 use Rattle.std.proofs.lemmas.List.Elements.{All-cons}
-use Rattle.bus.proofs.Lists.{all-none}
-use Rattle.bus.specs.declared.event.Event.TheVariants.{Accesses, Arrives, Steps}
-use Rattle.bus.specs.TickGroups.{without_go}
+use Rattle.adapter.proofs.Lists.{all-none}
+use Rattle.adapter.specs.bus_types.event.Event.TheVariants.{Accesses, Arrives, Steps}
+use Rattle.adapter.specs.TickGroups.{without_go}
 use Rattle.stations.specs.AtomicSteps.{At, AtomicStep, Idles, PlaysTick, step_outcome}
 use Rattle.stations.specs.ToldTicks.{tick_told}
 use Rattle.wire.specs.RunObservers.{EventEnding, EventTold, StatesEnding, TellsReply, ending}
 use Rattle.stations.specs.Stations.{StationState}
 use Rattle.stations.specs.declared.outcomes.Numbered.{Numbered}
 use Rattle.adapter.specs.Outcomes.{FrameOutcome}
-use Rattle.adapter.specs.declared.outcome.Outcome.TheVariants.{Nothing}
+use Rattle.adapter.specs.model_types.outcome.Outcome.TheVariants.{Nothing}
 use Rattle.stations.specs.declared.tick.Tick.{Tick}
 use Rattle.stations.specs.declared.tick.Tick.TheVariants.{Deliver, Go, Step}
 use Rattle.stations.specs.AtomicRuns.{IsTick, counted_of, is_go, noted_of}
@@ -18,7 +18,7 @@ use Rattle.host_calls.proofs.Telling.{leads-alone, said-alone}
 use Rattle.host_calls.specs.Happenings.{lone_tick_happenings}
 use Rattle.host_calls.specs.TickNumbers.{noted_numbers}
 use Rattle.host_calls.proofs.HostTrails.{none-alone}
-use Rattle.network_plan.specs.declared.reply.Answer.TheVariants.{NoCall}
+use Rattle.network_plan.specs.declared.reply.Answer.TheVariants.{Ticked}
 use Rattle.network_plan.specs.declared.event.Event.{Event}
 use Rattle.network_plan.specs.declared.reply.Reply.{Reply}
 use Rattle.wire.specs.Runs.{AreOutcomesAlone}
@@ -43,7 +43,7 @@ alone (Step host kind) steps outcomes not is = is
 alone (Deliver host) steps outcomes not is = is
 
 pub tick-played : (tick : Tick) (old new : List StationState) (outcome : FrameOutcome) (reply : Reply) → is_go tick ≡ false
-    → PlaysTick old tick outcome new → StatesEnding (ending 0 NoCall (tick_told tick 0 outcome ∷ [])) reply → TickPlayed tick reply old new
+    → PlaysTick old tick outcome new → StatesEnding (ending 0 Ticked (tick_told tick 0 outcome ∷ [])) reply → TickPlayed tick reply old new
 tick-played tick old new outcome reply not plays replies =
     let step = plays.step in
     let leads = leads-alone old new tick outcome plays not in
@@ -69,7 +69,7 @@ tick-played tick old new outcome reply not plays replies =
     }
 
 -- For Go there is no atomic step.
-go-alone : (old : List StationState) (reply : Reply) → StatesEnding (ending 0 NoCall (tick_told Go 0 Nothing ∷ [])) reply
+go-alone : (old : List StationState) (reply : Reply) → StatesEnding (ending 0 Ticked (tick_told Go 0 Nothing ∷ [])) reply
     → TickPlayed Go reply old old
 go-alone old reply replies =
     let one : reply.outcomes.list ≡ record { accesses = 0; outcome = Nothing } ∷ [] = replies.outcomes in
@@ -90,7 +90,7 @@ go-alone old reply replies =
     }
 
 pub go-played : (tick : Tick) (old : List StationState) (reply : Reply) → tick ≡ Go
-    → StatesEnding (ending 0 NoCall (tick_told tick 0 Nothing ∷ [])) reply → TickPlayed tick reply old old
+    → StatesEnding (ending 0 Ticked (tick_told tick 0 Nothing ∷ [])) reply → TickPlayed tick reply old old
 go-played tick old reply go replies =
     subst (λ (t : Tick). TickPlayed t reply old old) (sym go)
     (go-alone old reply (record { answer = replies.answer; accesses = replies.accesses; outcomes = replies.outcomes }))

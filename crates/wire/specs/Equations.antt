@@ -15,8 +15,8 @@ use Rattle.adapter.specs.HostFrames.{frames_held, frames_to_send}
 use Rattle.adapter.specs.State.{IsAdapter}
 use Rattle.adapter.specs.World.{World}
 use Rattle.bring_up.specs.ConfiguredAdapters.{HasSetup}
-use Rattle.bus.specs.DriverState.{owners}
-use Rattle.bus.specs.Calls.{HasNoForgottenWork, IsRefilled}
+use Rattle.adapter.specs.DriverState.{owners}
+use Rattle.adapter.specs.Calls.{HasNoForgottenWork, IsRefilled}
 use Rattle.bring_up.specs.Groups.{HasTable}
 use Rattle.stations.specs.Stations.{StationState, backlog_at, wire_at, world_at}
 use Rattle.packet_socket.specs.HostCalls.{HostReady, driver_of, held_for_socket, socket_frames, unclaimed_in, waiting_frames}

@@ -1,14 +1,14 @@
 -- The receive filter of a plan (3.2.1 "Packet Address Filtering" and chapter 9, "802.1q VLAN Support").
 use Rattle.std.specs.Prelude.{⊤, ◌≡◌, false, true}
 use Rattle.std.specs.List.{Contains}
-use Rattle.registers.specs.Image.{address_bytes}
+use Rattle.eeprom.specs.Image.{address_bytes}
 use Rattle.registers.specs.ReceiveControl.{shift_of}
 use Rattle.registers.specs.declared.receive_control.GroupOffset.TheVariants.{Bits47To36}
-use Rattle.rx_engine.specs.FilterLaws.{SameSets}
-use Rattle.rx_engine.specs.NumberTables.{numbers_of_groups}
-use Rattle.rx_engine.specs.Passing.{ReceiveFilter}
-use Rattle.rx_engine.specs.Registers.{FilterRegisters, filter_of}
-use Rattle.rx_engine.specs.declared.filter.TheConstants.{VLAN_TYPE}
+use Rattle.rx_filter.specs.Laws.{SameSets}
+use Rattle.rx_filter.specs.NumberTables.{numbers_of_groups}
+use Rattle.rx_filter.specs.Passing.{ReceiveFilter}
+use Rattle.rx_filter.specs.Registers.{FilterRegisters, filter_of}
+use Rattle.rx_filter.specs.declared.filter.TheConstants.{VLAN_TYPE}
 use Rattle.bring_up.specs.Configuration.{vlans_of}
 use Rattle.bring_up.specs.ConfiguredAdapters.{names_vlans}
 use Rattle.network_plan.specs.declared.plan.HostPlan.{HostPlan}

@@ -3,22 +3,22 @@ use Rattle.std.specs.Prelude.{⊤, ◌≡◌, ◌≢◌, ◌<◌, ◌*◌, ◌�
 use Rattle.std.specs.Prelude.{string_eq}
 use Rattle.std.specs.List.{position_or_len}
 use Rattle.std.specs.declared.alloc.Global.{Global}
-use Rattle.registers.specs.Image.{HasRightSum}
-use Rattle.registers.specs.declared.mdic.Ticked.{Ticked}
-use Rattle.registers.specs.declared.phy.Link.TheVariants.{Never}
+use Rattle.eeprom.specs.Image.{HasRightSum}
+use Rattle.mdic_phy.specs.declared.mdic.Ticked.{Ticked}
+use Rattle.mdic_phy.specs.declared.phy.Link.TheVariants.{Never}
 use Rattle.dma_memory.specs.Layout.{size_of}
 use Rattle.adapter.specs.HostFrames.{frames_held, frames_to_send}
 use Rattle.adapter.specs.State.{IsAdapter}
 use Rattle.adapter.specs.Steps.{causes_told}
 use Rattle.adapter.specs.World.{World}
-use Rattle.bus.specs.Link.{HasLink}
-use Rattle.bus.specs.Machines.{is_asserted}
+use Rattle.adapter.specs.Link.{HasLink}
+use Rattle.adapter.specs.Machines.{is_asserted}
 use Rattle.bring_up.specs.Configuration.{configured_counts}
 use Rattle.bring_up.specs.EepromReading.{most_reads}
 use Rattle.bring_up.specs.Link.{NeedsMoreThan}
 use Rattle.bring_up.specs.declared.init_error.InitError.{InitError}
 use Rattle.bring_up.specs.declared.init_error.InitError.TheVariants.{Checksum, Memory, NoLink}
-use Rattle.bus.specs.Calls.{HasNoForgottenWork, IsRefilled}
+use Rattle.adapter.specs.Calls.{HasNoForgottenWork, IsRefilled}
 use Rattle.bring_up.specs.ConfiguredAdapters.{HasSetup}
 use Rattle.bring_up.specs.Groups.{AreNamedOnce, HasTable}
 use Rattle.packet_socket.specs.HostCalls.{HostReady}

@@ -2,7 +2,7 @@
 -- call (our choice). The contract of `Lan::run` doesn't use these definitions. It uses `EventRuns` (specs/Runs), which
 -- follows from them.
 use Rattle.std.specs.Prelude.{◌≡◌, ℕ, All, List}
-use Rattle.bus.specs.TickGroups.{without_go}
+use Rattle.adapter.specs.TickGroups.{without_go}
 use Rattle.packet_socket.specs.CallEffects.{call_request}
 use Rattle.packet_socket.specs.HostState.{HostState}
 use Rattle.stations.specs.AtomicRuns.{IsTick, LeadsTo, is_go, steps_told}

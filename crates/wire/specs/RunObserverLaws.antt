@@ -1,7 +1,7 @@
 -- The outcomes that an observer is told of the ticks of a call determine the happenings of these ticks.
 use Rattle.std.proofs.Common.{◌≡◌, ◌++◌, ◌∷◌, [], List, map, refl, sym, ap, ◌∙◌}
 use Rattle.std.specs.List.{flat_map}
-use Rattle.bus.specs.TickGroups.{without_go}
+use Rattle.adapter.specs.TickGroups.{without_go}
 use Rattle.host_calls.specs.Happenings.{Happening, tick_host, tick_happenings, outcome_happenings}
 use Rattle.stations.specs.AtomicRuns.{is_go}
 use Rattle.stations.specs.Outcomes.{note_of}

@@ -1,6 +1,6 @@
 -- What an observer of a run is told (our choice).
 use Rattle.std.specs.Prelude.{◌≡◌, ◌≤◌, ◌++◌, ◌∷◌, [], ℕ, List, length, map}
-use Rattle.bus.specs.TickGroups.{without_go}
+use Rattle.adapter.specs.TickGroups.{without_go}
 use Rattle.host_calls.specs.Happenings.{Happening, tick_host, outcome_happenings}
 use Rattle.stations.specs.AtomicRuns.{is_go}
 use Rattle.stations.specs.Outcomes.{note_of}

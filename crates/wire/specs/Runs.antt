@@ -16,8 +16,8 @@
 use Rattle.std.specs.Prelude.{◌≡◌, ◌≢◌, ◌≤◌, ◌<◌, ◌+◌, ◌↔◌, ◌⊎◌, ◌==◌, ◌&&◌, ◌++◌, ◌∷◌, [], ℕ, All, List, None, Ok, Option, Some}
 use Rattle.std.specs.Prelude.{length, map, nat_le, nat_lt, slice_get}
 use Rattle.adapter.specs.HostFrames.{frames_held, frames_to_send}
-use Rattle.adapter.specs.declared.outcome.Outcome.TheVariants.{Nothing}
-use Rattle.bus.specs.TickGroups.{without_go}
+use Rattle.adapter.specs.model_types.outcome.Outcome.TheVariants.{Nothing}
+use Rattle.adapter.specs.TickGroups.{without_go}
 use Rattle.packet_socket.specs.CallEffects.{EffectOf, Interrupting, Joining, Leaving, Receiving, Request, Sending, given_in}
 use Rattle.packet_socket.specs.HostActs.{ActKind, HandlesInterrupt, IsAccessOf, MovesFrames, OnlyLastWrites, SetsGroups}
 use Rattle.packet_socket.specs.HostState.{HostState}
@@ -36,7 +36,7 @@ use Rattle.host_calls.specs.TickNumbers.{numbers, noted_numbers}
 use Rattle.network_plan.specs.Answers.{FrameAnswer, event_answer}
 use Rattle.network_plan.specs.EventCalls.{Alone, ByCall, ByReset, EventCall, EventKind, in_event}
 use Rattle.network_plan.specs.declared.event.Event.{Event}
-use Rattle.network_plan.specs.declared.reply.Answer.TheVariants.{Joined, Left, NoHost, Received, Reset, Sent, NoCall}
+use Rattle.network_plan.specs.declared.reply.Answer.TheVariants.{Joined, Left, NoHost, Received, Reset, Sent, Ticked}
 use Rattle.network_plan.specs.declared.reply.Reply.{Reply}
 use Rattle.host_calls.specs.CallsInSteps.{InSteps}
 use Rattle.host_calls.specs.ConnectedHosts.{ConnectedHost, connected}
@@ -261,8 +261,8 @@ pub record IsTickReply (tick : Tick) (reply : Reply) (steps : List AtomicStep) (
   pub outcomes : AreOutcomesAlone tick steps reply.outcomes.list
   -- there is one outcome, with 0 accesses before it
   pub numbered : noted_numbers reply.outcomes.list ≡ 0 ∷ []
-  -- the answer is NoCall
-  pub answer : reply.answer ≡ NoCall
+  -- the answer is Ticked
+  pub answer : reply.answer ≡ Ticked
   -- no host's driver, sockets, queues or count of frames without a socket change
   pub others : new.hosts ≡ old.hosts
 
@@ -286,11 +286,11 @@ IsReply (ByReset host ticks) = IsCallReply host ticks
 IsReply (Alone tick) = IsTickReply tick
 
 -- What the answer to an event states about the called host and the atomic steps, if the host exists. A tick outside a call has the answer
--- NoCall.
+-- Ticked.
 abbrev pub IsEventAnswer : EventKind → FrameAnswer → List AtomicStep → (old new : ConnectedHost) → Type 0
 IsEventAnswer (ByCall call) = AnswersCall call
 IsEventAnswer (ByReset host ticks) = AnswersReset host ticks
-IsEventAnswer (Alone tick) = λ answer steps old new. answer ≡ NoCall
+IsEventAnswer (Alone tick) = λ answer steps old new. answer ≡ Ticked
 
 -- An event and its reply lead from the network `old` to the network `new`.
 pub record EventRuns (old : NetworkState) (event : Event) (reply : Reply) (new : NetworkState) : Type 0 where

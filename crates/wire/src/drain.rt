@@ -8,7 +8,7 @@ ghost use Rattle.wire.specs.DrainedNetworks.{NetworkDrains};
 ghost use Rattle.host_calls.specs.Networks.{IsHost};
 
 use crate::Lan;
-use host_calls::FrameSink;
+use host_calls::Outlet;
 use rx_engine::MOST_FRAMES;
 
 impl Lan {
@@ -37,7 +37,7 @@ impl Lan {
     /// back the descriptor of the piece. If the interrupt line is asserted, the host handles an interrupt. If a frame
     /// is queued for a socket, the first such socket returns its oldest frame. If the receive packet buffer contains a
     /// frame, the adapter moves the next piece of the oldest frame to memory.
-    pub fn drain<S: FrameSink>(&mut self, host: usize, sink: &mut S) -> u64
+    pub fn drain<S: Outlet>(&mut self, host: usize, sink: &mut S) -> u64
         requires room { (state : HostState) → IsHost self.old host state
             → state.driver.layout.buffers + MOST_FRAMES ≤ S.room_left sink.old }
         ensures drains { NetworkDrains self.old host result (S.frames sink.old) (S.frames sink.new) self.new }

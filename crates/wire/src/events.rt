@@ -1,7 +1,7 @@
 // Plays one event of a network: a call, a reset, or a tick outside a call.
 
 ghost use Rattle.std.specs.Prelude.{◌≡◌, ◌≤◌, ◌<◌, ℕ, IfErr, List, OnOk, length, take};
-ghost use Rattle.bus.specs.TickGroups.{without_go};
+ghost use Rattle.adapter.specs.TickGroups.{without_go};
 ghost use Rattle.wire.specs.Equations.{NetworkStands};
 ghost use Rattle.network_plan.specs.Answers.{answer_with, event_answer};
 ghost use Rattle.network_plan.specs.EventCalls.{Alone, ByCall, ByReset, in_event};
@@ -199,7 +199,7 @@ pub(crate) fn make_reset<O: RunObserver>(
     Ok(())
 }
 
-/// Plays a tick outside a call, and reports the answer `NoCall`, with 0 accesses. `Go` changes no station, and its
+/// Plays a tick outside a call, and reports the answer `Ticked`, with 0 accesses. `Go` changes no station, and its
 /// outcome is `Nothing`. `tick` must be the tick of `event` (`is`). The observer must have room for the outcome and the
 /// answer.
 #[inline(always)]
@@ -222,5 +222,5 @@ pub(crate) fn tick<O: RunObserver>(
         Tick::Go => observer.note(tick, 0, Outcome::Nothing, &[]),
         _ => network.play(tick, 0, observer),
     }
-    observer.answer(event, 0, Answer::NoCall, &[]);
+    observer.answer(event, 0, Answer::Ticked, &[]);
 }

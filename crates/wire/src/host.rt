@@ -7,11 +7,10 @@ ghost use Rattle.dma_memory.specs.Layout.{size_of};
 ghost use Rattle.network_plan.specs.Plans.{HasConfig};
 ghost use Rattle.wire.specs.HostsUp.{ComesUp, IsReason};
 
-use adapter::Adapter;
+use adapter::{Adapter, LivelyBus, Machine};
 use arrayvec::ArrayVec;
-use bring_up::InitError;
-use bus::{LivelyBus, Machine};
 use dma_memory::HostMemory;
+use driver::InitError;
 use network_plan::{HostPlan, MOST_SOCKETS};
 use packet_socket::{Host, SocketKind};
 use std::alloc::Global;

@@ -8,7 +8,7 @@ ghost use Rattle.wire.specs.HostsUp.{AreUp, IsRefusal, ShareWires};
 ghost use Rattle.wire.specs.HostsUp as up;
 
 use crate::host::bring_up_host;
-use bring_up::InitError;
+use driver::InitError;
 use host_calls::Network;
 use network_plan::{HostPlan, Plan, PlanError};
 use std::alloc::Global;

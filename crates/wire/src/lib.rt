@@ -15,11 +15,13 @@ mod log;
 mod new;
 mod run_observer;
 
+pub use adapter::{Fate, Outcome};
 pub use counts::Counts;
 pub use host::bring_up_host;
-pub use host_calls::FrameSink;
+pub use host_calls::Outlet;
 pub use hosts::bring_up;
 pub use lan::Lan;
 pub use law::{frames_are_legal, runs_join};
-pub use network_plan::{Answer, Event, Reply, Stopped};
+pub use network_plan::{Answer, Event, HostPlan, Plan, PlanError, Reply, Stopped};
 pub use run_observer::RunObserver;
+pub use stations::{HeapFrame, Outcomes, Tick};

@@ -1,7 +1,7 @@
 use Rattle.std.proofs.Common.{[], sym, subst}
 use Rattle.adapter_plants.specs.OneSoloEnd.{solo_end_one}
-use Rattle.bus.specs.TickGroups.{without_go}
-use Rattle.solo_bus.specs.SoloBuses.{PlaysSoloTicks, SoloState, is_solo_go}
+use Rattle.adapter.specs.TickGroups.{without_go}
+use Rattle.adapter.specs.SoloBuses.{PlaysSoloTicks, SoloState, is_solo_go}
 use Rattle.adapter_plants.proofs.solo_bus_calls.finish_twice.Goals as goal
 
 pub returns : goal.returns

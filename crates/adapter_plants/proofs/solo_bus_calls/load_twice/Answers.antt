@@ -1,9 +1,9 @@
 use Rattle.std.proofs.Common.{ℕ, refl, sym, ap, subst, length, ◌∙◌}
 use Rattle.adapter_plants.specs.OneAccess.{state_one}
-use Rattle.bus.specs.declared.event.Access.TheVariants.{Loads}
+use Rattle.adapter.specs.bus_types.event.Access.TheVariants.{Loads}
 use Rattle.adapter.specs.World.{World}
 use Rattle.dma_memory.specs.HostMemory.{bytes_at}
-use Rattle.solo_bus.specs.SoloBuses.{Recounts, SoloState}
+use Rattle.adapter.specs.SoloBuses.{Recounts, SoloState}
 use Rattle.adapter_plants.proofs.solo_bus_calls.load_twice.Goals as goal
 
 pub returns-clause-state : goal.returns-clause-state

@@ -1,7 +1,7 @@
 use Rattle.std.proofs.Common.{refl, sym, subst}
 use Rattle.adapter_plants.specs.OneAccess.{answer_one, state_one}
-use Rattle.bus.specs.declared.event.Access.TheVariants.{Reads}
-use Rattle.solo_bus.specs.SoloBuses.{Recounts, SoloState}
+use Rattle.adapter.specs.bus_types.event.Access.TheVariants.{Reads}
+use Rattle.adapter.specs.SoloBuses.{Recounts, SoloState}
 use Rattle.adapter_plants.proofs.solo_bus_calls.read_twice.Goals as goal
 
 pub returns-clause-answer : goal.returns-clause-answer

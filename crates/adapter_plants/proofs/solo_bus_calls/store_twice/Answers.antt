@@ -1,7 +1,7 @@
 use Rattle.std.proofs.Common.{refl, sym, subst}
 use Rattle.adapter_plants.specs.OneAccess.{state_one}
-use Rattle.bus.specs.declared.event.Access.TheVariants.{Stores}
-use Rattle.solo_bus.specs.SoloBuses.{Recounts, SoloState}
+use Rattle.adapter.specs.bus_types.event.Access.TheVariants.{Stores}
+use Rattle.adapter.specs.SoloBuses.{Recounts, SoloState}
 use Rattle.adapter_plants.proofs.solo_bus_calls.store_twice.Goals as goal
 
 pub returns : goal.returns

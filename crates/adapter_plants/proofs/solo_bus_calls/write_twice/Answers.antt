@@ -1,7 +1,7 @@
 use Rattle.std.proofs.Common.{refl, sym, subst}
 use Rattle.adapter_plants.specs.OneAccess.{state_one}
-use Rattle.bus.specs.declared.event.Access.TheVariants.{Writes}
-use Rattle.solo_bus.specs.SoloBuses.{Recounts, SoloState}
+use Rattle.adapter.specs.bus_types.event.Access.TheVariants.{Writes}
+use Rattle.adapter.specs.SoloBuses.{Recounts, SoloState}
 use Rattle.adapter_plants.proofs.solo_bus_calls.write_twice.Goals as goal
 
 pub returns : goal.returns

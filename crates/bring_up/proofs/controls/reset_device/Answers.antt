@@ -1,6 +1,6 @@
 use Rattle.std.proofs.Common.{ap, ◌∙◌}
 use Rattle.adapter.specs.World.{World}
-use Rattle.bus.proofs.Lists.{all-none}
+use Rattle.adapter.proofs.Lists.{all-none}
 use Rattle.bring_up.proofs.WritesAtRest.{mask-aside, read-forgets, reset-rests}
 use Rattle.bring_up.specs.SettingSteps.{IsAside}
 use Rattle.bring_up.proofs.Steps.{sets-join, sets-read, sets-write}

@@ -1,6 +1,6 @@
 use Rattle.std.proofs.Common.{◌∙◌, ℕ, ap, refl}
 use Rattle.adapter.specs.World.{world_after_write}
-use Rattle.bus.proofs.Links.{happenings_keep_link}
+use Rattle.adapter.proofs.Links.{happenings_keep_link}
 use Rattle.bring_up.proofs.DriverResets.{link_control-keeps}
 use Rattle.bring_up.proofs.Steps.{only-write}
 use Rattle.bring_up.proofs.controls.set_link_up.Goals as goal

@@ -1,8 +1,8 @@
 use Rattle.std.proofs.Common.{◌≡◌, ◌+◌, ◌*◌, ◌∷◌, [], Bool, false, ℕ, add-one, sym, subst, arith}
-use Rattle.bus.proofs.Keeping.{keeps-here, keeps-on}
-use Rattle.bus.specs.Calls.{Ran, at, only}
-use Rattle.bus.specs.DriverState.{DriverState}
-use Rattle.bus.proofs.DriverAccesses.{ran_by-join, ran_by-stays}
+use Rattle.adapter.proofs.Keeping.{keeps-here, keeps-on}
+use Rattle.adapter.specs.Calls.{Ran, at, only}
+use Rattle.adapter.specs.DriverState.{DriverState}
+use Rattle.adapter.proofs.DriverAccesses.{ran_by-join, ran_by-stays}
 use Rattle.bring_up.specs.ClearedDescriptors.{clears, clears_from}
 use Rattle.bring_up.proofs.ClearedDescriptors.{ran_by-clears_sent, ran_by-clears_spare}
 use Rattle.bring_up.proofs.descriptors_clearing.clear_descriptors.Goals as goal

@@ -1,7 +1,7 @@
 use Rattle.std.proofs.Common.{◌≡◌, ◌≤◌, ◌+◌, ℕ, Bool, false, length}
-use Rattle.bus.specs.Keeping.{Keeps}
-use Rattle.bus.specs.Calls.{IsReadyOver, Ran, at, only}
-use Rattle.bus.specs.DriverState.{DriverState, receive_slot, transmit_slot}
+use Rattle.adapter.specs.Keeping.{Keeps}
+use Rattle.adapter.specs.Calls.{IsReadyOver, Ran, at, only}
+use Rattle.adapter.specs.DriverState.{DriverState, receive_slot, transmit_slot}
 use Rattle.bring_up.specs.ClearedDescriptors.{clears_from}
 use Rattle.bring_up.proofs.descriptors_clearing.clear_descriptors.Given as goal
 

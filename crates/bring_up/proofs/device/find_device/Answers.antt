@@ -1,8 +1,8 @@
 use Rattle.std.proofs.Common.{⊎_elim, ◌≡◌, ◌++◌, ℕ, List, Result, Err, length-append, sym, ap, subst, ◌∙◌, arith}
 use Rattle.std.proofs.lemmas.Bool.{false≢true}
 use Rattle.std.proofs.lemmas.Result.{err_from_is_err_and}
-use Rattle.registers.specs.Image.{HasRightSum}
-use Rattle.bus.specs.Pasts.{joined}
+use Rattle.eeprom.specs.Image.{HasRightSum}
+use Rattle.adapter.specs.Pasts.{joined}
 use Rattle.bring_up.specs.Device.{FindsDevice}
 use Rattle.bring_up.specs.Link.{NeedsMoreThan}
 use Rattle.bring_up.specs.WrittenRegisters.{allocation_writes, enable_link_writes, reset_writes}

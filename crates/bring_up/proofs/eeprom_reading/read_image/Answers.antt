@@ -1,5 +1,5 @@
 use Rattle.std.proofs.Common.{arith, rules}
-use Rattle.bus.proofs.Keeping.{keeps-here, keeps-on}
+use Rattle.adapter.proofs.Keeping.{keeps-here, keeps-on}
 use Rattle.bring_up.proofs.EepromImages.{all-read, first-more, first-none, read-failed}
 use Rattle.bring_up.proofs.eeprom_reading.read_image.Goals as goal
 

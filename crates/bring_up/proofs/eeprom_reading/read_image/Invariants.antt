@@ -1,5 +1,5 @@
 use Rattle.std.proofs.Common.{◌≡◌, length}
-use Rattle.bus.specs.Keeping.{Keeps}
+use Rattle.adapter.specs.Keeping.{Keeps}
 use Rattle.bring_up.proofs.EepromImages.{FirstWords}
 use Rattle.bring_up.proofs.eeprom_reading.read_image.Given as goal
 

@@ -1,5 +1,5 @@
 use Rattle.std.proofs.Common.{arith, refl, ◌+◌, ◌<◌, ◌^◌}
-use Rattle.bus.proofs.Keeping.{keeps-on}
+use Rattle.adapter.proofs.Keeping.{keeps-on}
 use Rattle.bring_up.proofs.EepromWords.{awaits-read, awaits-write, gave-up, never-slow, start-with, word-read}
 use Rattle.bring_up.proofs.eeprom_reading.read_word.Goals as goal
 

@@ -1,5 +1,5 @@
 use Rattle.std.proofs.Common.{◌≡◌, ◌+◌}
-use Rattle.bus.specs.Keeping.{Keeps}
+use Rattle.adapter.specs.Keeping.{Keeps}
 use Rattle.bring_up.proofs.EepromWords.{Awaits}
 use Rattle.bring_up.proofs.eeprom_reading.read_word.Given as goal
 

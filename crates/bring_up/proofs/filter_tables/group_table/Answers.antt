@@ -1,9 +1,9 @@
 use Rattle.std.proofs.Common.{◌∷◌, [], get_or, take, sym, ap, ◌∙◌, arith}
 use Rattle.std.proofs.lemmas.List.{map-append}
 use Rattle.std.proofs.lemmas.Nat.{mod_below}
-use Rattle.rx_engine.specs.Addresses.{group_number}
-use Rattle.rx_engine.specs.NumberTables.{HasNumbers, numbers_of_groups}
-use Rattle.rx_engine.specs.Writing.{with_number}
+use Rattle.rx_filter.specs.Addresses.{group_number}
+use Rattle.rx_filter.specs.NumberTables.{HasNumbers, numbers_of_groups}
+use Rattle.rx_filter.specs.Writing.{with_number}
 use Rattle.std.proofs.Common.{subst}
 use Rattle.bring_up.proofs.Tables.{no-numbers, one-number-more, take-all, take-more}
 use Rattle.bring_up.proofs.filter_tables.group_table.Goals as goal

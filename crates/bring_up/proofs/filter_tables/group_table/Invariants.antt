@@ -1,5 +1,5 @@
 use Rattle.std.proofs.Common.{take}
-use Rattle.rx_engine.specs.NumberTables.{HasNumbers, numbers_of_groups}
+use Rattle.rx_filter.specs.NumberTables.{HasNumbers, numbers_of_groups}
 use Rattle.bring_up.proofs.filter_tables.group_table.Given as goal
 
 abbrev pub invariant-loop-group : goal.invariant-loop-group

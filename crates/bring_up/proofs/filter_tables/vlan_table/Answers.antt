@@ -1,5 +1,5 @@
 use Rattle.std.proofs.Common.{subst, arith}
-use Rattle.rx_engine.specs.NumberTables.{HasNumbers}
+use Rattle.rx_filter.specs.NumberTables.{HasNumbers}
 use Rattle.bring_up.proofs.Tables.{no-numbers, one-number-more, take-all, take-more}
 use Rattle.bring_up.proofs.filter_tables.vlan_table.Goals as goal
 

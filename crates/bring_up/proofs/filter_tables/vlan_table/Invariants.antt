@@ -1,5 +1,5 @@
 use Rattle.std.proofs.Common.{take}
-use Rattle.rx_engine.specs.NumberTables.{HasNumbers}
+use Rattle.rx_filter.specs.NumberTables.{HasNumbers}
 use Rattle.bring_up.proofs.filter_tables.vlan_table.Given as goal
 
 abbrev pub invariant-loop-vlan : goal.invariant-loop-vlan

@@ -1,7 +1,7 @@
 use Rattle.std.proofs.Common.{◌≡◌, ◌+◌, ◌-◌, ◌++◌, add-one, ℕ, List, sym, ap, subst, ◌∙◌, arith}
-use Rattle.bus.proofs.Keeping.{keeps-here, keeps-on}
-use Rattle.bus.specs.Settings.{Write}
-use Rattle.rx_engine.specs.Addresses.{high_word, low_word}
+use Rattle.adapter.proofs.Keeping.{keeps-here, keeps-on}
+use Rattle.adapter.specs.Settings.{Write}
+use Rattle.rx_filter.specs.Addresses.{high_word, low_word}
 use Rattle.bring_up.specs.FilterTables.{empty_entries, entry_writes}
 use Rattle.bring_up.specs.SettingSteps.{SetsOnly}
 use Rattle.bring_up.proofs.Steps.{only-join, only-nothing}

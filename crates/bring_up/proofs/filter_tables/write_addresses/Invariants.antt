@@ -1,5 +1,5 @@
 use Rattle.std.proofs.Common.{◌-◌}
-use Rattle.bus.specs.Keeping.{Keeps}
+use Rattle.adapter.specs.Keeping.{Keeps}
 use Rattle.bring_up.specs.FilterTables.{empty_entries}
 use Rattle.bring_up.specs.SettingSteps.{SetsOnly}
 use Rattle.bring_up.proofs.filter_tables.write_addresses.Given as goal

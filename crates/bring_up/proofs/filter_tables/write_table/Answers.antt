@@ -1,7 +1,7 @@
 use Rattle.std.proofs.Common.{◌≡◌, ◌<◌, ◌+◌, ◌*◌, ◌++◌, ◌∷◌, [], ℕ, List, get_or, length, take, refl, sym, ap, subst, ◌∙◌, arith}
 use Rattle.std.proofs.lemmas.List.{length-take-le}
-use Rattle.bus.proofs.Keeping.{keeps-here, keeps-on}
-use Rattle.bus.specs.Settings.{Write}
+use Rattle.adapter.proofs.Keeping.{keeps-here, keeps-on}
+use Rattle.adapter.specs.Settings.{Write}
 use Rattle.bring_up.specs.FilterTables.{table_writes}
 use Rattle.bring_up.specs.SettingSteps.{SetsOnly}
 use Rattle.bring_up.specs.WrittenRegisters.{write_at}

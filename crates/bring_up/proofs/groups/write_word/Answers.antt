@@ -1,6 +1,6 @@
 use Rattle.std.proofs.Common.{◌≡◌, ◌/◌, ℕ, ap, ◌∙◌}
 use Rattle.std.specs.Prelude.{slice_index}
-use Rattle.rx_engine.specs.NumberTables.{numbers_of_groups}
+use Rattle.rx_filter.specs.NumberTables.{numbers_of_groups}
 use Rattle.bring_up.specs.Groups.{word_of}
 use Rattle.bring_up.proofs.Numbers.{word-of-table, word_below}
 use Rattle.bring_up.proofs.groups.write_word.Goals as goal

@@ -1,7 +1,7 @@
 use Rattle.std.proofs.Common.{◌∙◌, sym, arith}
 use Rattle.std.proofs.lemmas.Bool.{false≢true}
 use Rattle.std.proofs.lemmas.Result.{err_from_is_err_and}
-use Rattle.bus.proofs.Keeping.{keeps-here, keeps-on}
+use Rattle.adapter.proofs.Keeping.{keeps-here, keeps-on}
 use Rattle.bring_up.proofs.LinkTicks.{NotBoth, not-both}
 use Rattle.bring_up.proofs.Negotiations.{awaits-late, awaits-none, awaits-on, awaits-up, begins}
 use Rattle.bring_up.proofs.link.await_link.Goals as goal

@@ -1,4 +1,4 @@
-use Rattle.bus.specs.Keeping.{Keeps}
+use Rattle.adapter.specs.Keeping.{Keeps}
 use Rattle.bring_up.proofs.Negotiations.{Awaits}
 use Rattle.bring_up.proofs.link.await_link.Given as goal
 

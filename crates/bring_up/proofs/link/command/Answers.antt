@@ -1,4 +1,4 @@
-use Rattle.bus.proofs.Keeping.{keeps-on}
+use Rattle.adapter.proofs.Keeping.{keeps-on}
 use Rattle.bring_up.proofs.PhyCommands.{answered, gives, unanswered, waits-on}
 use Rattle.bring_up.proofs.link.command.Goals as goal
 

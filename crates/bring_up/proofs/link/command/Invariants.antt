@@ -1,4 +1,4 @@
-use Rattle.bus.specs.Keeping.{Keeps}
+use Rattle.adapter.specs.Keeping.{Keeps}
 use Rattle.bring_up.proofs.PhyCommands.{Waits}
 use Rattle.bring_up.proofs.link.command.Given as goal
 

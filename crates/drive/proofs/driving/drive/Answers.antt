@@ -1,4 +1,4 @@
-use Rattle.bus.proofs.Keeping.{keeps-on}
+use Rattle.adapter.proofs.Keeping.{keeps-on}
 use Rattle.drive.proofs.Driven.{drives}
 use Rattle.drive.proofs.driving.drive.Goals as goal
 

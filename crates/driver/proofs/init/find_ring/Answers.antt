@@ -1,10 +1,10 @@
 use Rattle.std.proofs.Common.{◌≡◌, ◌≤◌, ◌*◌, ℕ, List, length, ap, subst, ◌∙◌, sym, arith}
 use Rattle.dma_memory.specs.Layout.{Counts, ReceiveRing}
 use Rattle.dma_memory.specs.LayoutLaws.{place-below_size}
-use Rattle.bus.proofs.Keeping.{keeps-on}
-use Rattle.bus.specs.Pasts.{joined}
+use Rattle.adapter.proofs.Keeping.{keeps-on}
+use Rattle.adapter.specs.Pasts.{joined}
 use Rattle.bring_up.specs.Configuration.{configured_counts, vlans_of}
-use Rattle.registers.specs.Image.{address_bytes}
+use Rattle.eeprom.specs.Image.{address_bytes}
 use Rattle.bring_up.specs.RestingRings.{HasNewRings, HasReceiveRing, SetsAtRest}
 use Rattle.bring_up.specs.RingRegisters.{ring_setup_writes}
 use Rattle.bring_up.specs.declared.ring_registers.RingPlace.{RingPlace}

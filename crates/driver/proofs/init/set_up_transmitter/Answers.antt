@@ -5,8 +5,8 @@ use Rattle.bring_up.specs.RingRegisters.{ring_setup_writes}
 use Rattle.bring_up.specs.declared.ring_registers.RingPlace.{RingPlace}
 use Rattle.dma_memory.specs.Layout.{Counts, IsAllowed, TransmitRing}
 use Rattle.dma_memory.specs.LayoutLaws.{place-below_size}
-use Rattle.bus.proofs.Keeping.{keeps-on}
-use Rattle.bus.specs.Calls.{Ran, at, only}
+use Rattle.adapter.proofs.Keeping.{keeps-on}
+use Rattle.adapter.specs.Calls.{Ran, at, only}
 use Rattle.driver.proofs.Initialisation.{sets-transmitter}
 use Rattle.driver.proofs.init.set_up_transmitter.Goals as goal
 

@@ -4,7 +4,7 @@ use Rattle.registers.specs.Bits.{is_set}
 use Rattle.registers.specs.Laws.{contains_is_set}
 use Rattle.descriptors.specs.TxFields.{sent_bits}
 use Rattle.descriptors.specs.declared.tx_desc.TxDesc.{TxDesc}
-use Rattle.bus.proofs.OfferedAndFreedSlots.{status-byte}
+use Rattle.adapter.proofs.OfferedAndFreedSlots.{status-byte}
 use Rattle.driver.proofs.transmit.shows_done.Goals as goal
 
 pub returns : goal.returns

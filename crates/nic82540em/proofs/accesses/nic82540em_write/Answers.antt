@@ -1,5 +1,5 @@
 use Rattle.std.proofs.Common.{refl, true}
-use Rattle.bus.specs.declared.event.Access.TheVariants.{Writes}
+use Rattle.adapter.specs.bus_types.event.Access.TheVariants.{Writes}
 use Rattle.nic82540em.specs.Calls.{AccessAnswered}
 use Rattle.nic82540em.specs.declared.watched.WatchedAdapter.{WatchedAdapter}
 use Rattle.played_adapter.specs.Playing.{Accessed}

@@ -1,5 +1,5 @@
 use Rattle.std.proofs.Common.{refl, true}
-use Rattle.bus.specs.declared.event.Access.TheVariants.{Writes}
+use Rattle.adapter.specs.bus_types.event.Access.TheVariants.{Writes}
 use Rattle.played_adapter.specs.Playing.{Accessed}
 use Rattle.nic82540em.proofs.Pacing.{met_and_followed}
 use Rattle.nic82540em.proofs.calls.meet_and_write.Goals as goal

@@ -1,5 +1,5 @@
-use Rattle.bus.proofs.Intervals.{flows_join, goes_join}
-use Rattle.bus.specs.Calls.{FlowsTo, GoesTo}
+use Rattle.adapter.proofs.Intervals.{flows_join, goes_join}
+use Rattle.adapter.specs.Calls.{FlowsTo, GoesTo}
 use Rattle.packet_socket.proofs.Intervals.{host-join}
 use Rattle.packet_socket.proofs.law.host_intervals_join.Goals as goal
 

@@ -1,8 +1,8 @@
 use Rattle.std.proofs.Common.{◌+◌, ◌^◌, ℕ, List, Option, sym, ap, ◌∙◌}
 use Rattle.adapter.specs.Registers.{after_write}
 use Rattle.pcap_bench.specs.Choosing.{with_address}
-use Rattle.rx_engine.specs.Addresses.{high_word}
-use Rattle.rx_engine.specs.declared.address.AddressWords.{AddressWords}
+use Rattle.rx_filter.specs.Addresses.{high_word}
+use Rattle.rx_filter.specs.declared.address.AddressWords.{AddressWords}
 use Rattle.pcap_bench.proofs.Writes.{wrote-address, wrote-no_address}
 use Rattle.pcap_bench.proofs.choosing.write_address.Goals as goal
 use Rattle.pcap_bench.proofs.choosing.write_address.Goals.{in-Some, in-None}

@@ -1,5 +1,5 @@
 use Rattle.std.proofs.Common.{◌+◌, ◌*◌, ◌/◌, ◌%◌, ◌^◌, ℕ, List, Option, sym, ap, ◌∙◌, arith}
-use Rattle.rx_engine.specs.Addresses.{group_number}
+use Rattle.rx_filter.specs.Addresses.{group_number}
 use Rattle.adapter.specs.Registers.{after_write}
 use Rattle.pcap_bench.specs.Choosing.{with_group_bit}
 use Rattle.pcap_bench.proofs.Writes.{wrote-group}

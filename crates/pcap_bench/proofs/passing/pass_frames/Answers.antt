@@ -4,8 +4,8 @@ use Rattle.std.specs.Io.KnownBytes.{Appends, append_known}
 use Rattle.std.proofs.lemmas.Result.{err_from_is_err_and}
 use Rattle.descriptors.specs.Frames.{padded}
 use Rattle.pcap_trace.specs.Format.{packet_of}
-use Rattle.rx_engine.specs.Passing.{Passes}
-use Rattle.rx_engine.specs.Registers.{FilterRegisters, filter_of}
+use Rattle.rx_filter.specs.Passing.{Passes}
+use Rattle.rx_filter.specs.Registers.{FilterRegisters, filter_of}
 use Rattle.pcap_bench.specs.Lane.{slot_bytes, IsWaiting}
 use Rattle.pcap_bench.specs.Passing.{Filter}
 use Rattle.pcap_bench.proofs.Passes.{SoFar-start, SoFar-illegal, SoFar-filtered, SoFar-kept, SoFar-stops}

@@ -1,8 +1,8 @@
 use Rattle.std.proofs.Common.{◌≡◌, length}
 use Rattle.std.specs.Io.KnownBytes.{append_known}
 use Rattle.pcap_trace.specs.Devices.{Grows}
-use Rattle.rx_engine.specs.Passing.{Passes}
-use Rattle.rx_engine.specs.Registers.{filter_of}
+use Rattle.rx_filter.specs.Passing.{Passes}
+use Rattle.rx_filter.specs.Registers.{filter_of}
 use Rattle.pcap_bench.specs.Lane.{IsWaiting}
 use Rattle.pcap_bench.proofs.Passes.{SoFar}
 use Rattle.pcap_bench.proofs.passing.pass_frames.Given as goal

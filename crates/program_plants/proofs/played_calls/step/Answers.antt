@@ -1,5 +1,5 @@
 use Rattle.std.proofs.Common.{subst, sym}
-use Rattle.adapter.specs.declared.outcome.Outcome.{Outcome}
+use Rattle.adapter.specs.model_types.outcome.Outcome.{Outcome}
 use Rattle.played_adapter.specs.Order.{Tells}
 use Rattle.played_adapter.specs.Playing.{Steps}
 use Rattle.played_adapter.specs.declared.player.PlayedAdapter.{PlayedAdapter}

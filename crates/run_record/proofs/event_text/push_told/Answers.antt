@@ -2,8 +2,8 @@ use Rattle.std.proofs.Common.{◌≡◌, ◌⊎◌, ◌++◌, [], ℕ, List, ap,
 use Rattle.std.proofs.Common.{sym, ◌∙◌}
 use Rattle.std.proofs.lemmas.Result.{on_ok_weaker}
 use Rattle.adapter.specs.Outcomes.{with_frame}
-use Rattle.adapter.specs.declared.outcome.Outcome.{Outcome}
-use Rattle.adapter.specs.declared.outcome.Outcome.TheVariants as outcome
+use Rattle.adapter.specs.model_types.outcome.Outcome.{Outcome}
+use Rattle.adapter.specs.model_types.outcome.Outcome.TheVariants as outcome
 use Rattle.rx_engine.specs.declared.arrival.Fate.{Fate}
 use Rattle.run_record.specs.EventTexts.{numbered, outcome_field, outcome_size, tick_text}
 use Rattle.run_record.proofs.Appended.{also}

@@ -4,7 +4,7 @@ use Rattle.network_plan.specs.declared.event.Event.{Event}
 use Rattle.network_plan.specs.declared.plan.HostPlan.{HostPlan}
 use Rattle.run_record.specs.Puts.{wire_name_of}
 use Rattle.scenario.specs.SoFar.{Said, Ticks, command_of_event, hosts_of}
-use Rattle.adapter.specs.declared.step.StepKind.TheVariants.{TxTake}
+use Rattle.adapter.specs.model_types.step.StepKind.TheVariants.{TxTake}
 use Rattle.stations.specs.declared.tick.Tick.TheVariants.{Step}
 use Rattle.scenario_bench.specs.EventLists.{arrival_at, arrivals_from}
 use Rattle.scenario_bench.proofs.EventsOfCommands.{arrivals_step, other_host, own_host, same_names}

@@ -1,10 +1,10 @@
 use Rattle.std.proofs.Common.{◌≡◌, ap, sym, subst}
-use Rattle.adapter.specs.declared.step.StepKind.TheVariants.{RxDone}
+use Rattle.adapter_model.specs.declared.step.StepKind.TheVariants.{RxDone}
 use Rattle.solo_bus.specs.SoundWorlds.{HasFinished}
-use Rattle.adapter.specs.Conditions.{Sound}
+use Rattle.adapter_model.specs.Conditions.{Sound}
 use Rattle.solo_bus.specs.SoloBuses.{SoloState, wire_has_room, solo_framed}
 use Rattle.solo_bus.specs.SoundBuses.{finished_slot}
-use Rattle.adapter.specs.World.{World}
+use Rattle.adapter_model.specs.World.{World}
 use Rattle.solo_bus.proofs.SoundBuses.{reported-found, reported-has_finished, stepped-sound}
 use Rattle.solo_bus.proofs.sound_buses.with_finished_slot.Goals as goal
 

@@ -1,9 +1,9 @@
 use Rattle.std.proofs.Common.{◌≡◌, ℕ, ap, ◌∙◌, sym, subst, arith}
 use Rattle.solo_bus.specs.SoundWorlds.{HasFramesInRing}
-use Rattle.adapter.specs.Conditions.{Sound}
+use Rattle.adapter_model.specs.Conditions.{Sound}
 use Rattle.solo_bus.specs.SoloBuses.{SoloState}
 use Rattle.solo_bus.specs.SoundBuses.{request, sending}
-use Rattle.adapter.specs.World.{World, world_after_store, world_after_write}
+use Rattle.adapter_model.specs.World.{World, world_after_store, world_after_write}
 use Rattle.solo_bus.proofs.SoundBuses.{sending-has_frames, sending-sound, sending-written}
 use Rattle.solo_bus.proofs.sound_buses.with_frame_to_send.Goals as goal
 

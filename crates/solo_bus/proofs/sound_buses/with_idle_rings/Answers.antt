@@ -1,7 +1,7 @@
 use Rattle.std.proofs.Common.{◌≡◌, ℕ, List, ap, ◌∙◌, replicate}
-use Rattle.adapter.specs.State.{AdapterState}
+use Rattle.adapter_model.specs.State.{AdapterState}
 use Rattle.solo_bus.specs.SoloBuses.{SoloState}
-use Rattle.adapter.specs.World.{World, world_after_write}
+use Rattle.adapter_model.specs.World.{World, world_after_write}
 use Rattle.solo_bus.proofs.SoundBuses.{set_up, set_up-rests}
 use Rattle.solo_bus.proofs.sound_buses.with_idle_rings.Goals as goal
 

@@ -1,9 +1,9 @@
 use Rattle.std.proofs.Common.{◌≡◌, ap, ◌∙◌, sym, subst, arith}
 use Rattle.solo_bus.specs.SoundWorlds.{HasRings}
-use Rattle.adapter.specs.Conditions.{Sound}
+use Rattle.adapter_model.specs.Conditions.{Sound}
 use Rattle.solo_bus.specs.SoloBuses.{SoloState}
 use Rattle.solo_bus.specs.SoundBuses.{ready}
-use Rattle.adapter.specs.World.{world_after_write}
+use Rattle.adapter_model.specs.World.{world_after_write}
 use Rattle.solo_bus.proofs.SoundBuses.{ready-has_rings, ready-sound, ready-written}
 use Rattle.solo_bus.proofs.sound_buses.with_rings.Goals as goal
 

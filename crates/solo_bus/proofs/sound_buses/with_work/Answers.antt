@@ -1,10 +1,10 @@
 use Rattle.std.proofs.Common.{◌≡◌, ap, sym, subst, arith}
-use Rattle.adapter.specs.declared.step.StepKind.TheVariants.{RxData}
+use Rattle.adapter_model.specs.declared.step.StepKind.TheVariants.{RxData}
 use Rattle.solo_bus.specs.SoundWorlds.{HasPieceInWork}
-use Rattle.adapter.specs.Conditions.{Sound}
+use Rattle.adapter_model.specs.Conditions.{Sound}
 use Rattle.solo_bus.specs.SoloBuses.{SoloState, wire_has_room, solo_framed}
 use Rattle.solo_bus.specs.SoundBuses.{call, working}
-use Rattle.adapter.specs.World.{World}
+use Rattle.adapter_model.specs.World.{World}
 use Rattle.solo_bus.proofs.SoundBuses.{arrived-sound, stepped-sound, working-found, working-has_work}
 use Rattle.solo_bus.proofs.sound_buses.with_work.Goals as goal
 

@@ -2,8 +2,8 @@ use Rattle.std.proofs.Common.{◌∷◌, [], ap, arith, subst, sym, ◌∙◌}
 use Rattle.host_calls.specs.Networks.{NetworkState}
 use Rattle.stations.specs.ToldTicks.{tick_told}
 use Rattle.adapter.specs.Outcomes.{FrameOutcome}
-use Rattle.adapter.specs.declared.outcome.Outcome.TheVariants.{Nothing}
-use Rattle.network_plan.specs.declared.reply.Answer.TheVariants.{NoCall}
+use Rattle.adapter.specs.model_types.outcome.Outcome.TheVariants.{Nothing}
+use Rattle.network_plan.specs.declared.reply.Answer.TheVariants.{Ticked}
 use Rattle.network_plan.specs.declared.reply.Reply.{Reply}
 use Rattle.wire.specs.PlayedCalls.{TickPlayed}
 use Rattle.wire.specs.RunObservers.{StatesEnding, ending, ticks_played}
@@ -40,7 +40,7 @@ returns-clause-told g c =
     let begin = c.args.observer.now in
     let new = c.match-tick in
     let tells = λ (outcome : FrameOutcome) (heard : g.O.Observer.heard begin new.observer (tick_told tick 0 outcome ∷ []))
-    (plays : (reply : Reply) → StatesEnding (ending 0 NoCall (tick_told tick 0 outcome ∷ [])) reply
+    (plays : (reply : Reply) → StatesEnding (ending 0 Ticked (tick_told tick 0 outcome ∷ [])) reply
     → TickPlayed tick reply old new.network.stations).
     event-told (c.answer.ensures begin (tick_told tick 0 outcome ∷ []) heard (sym (ap ticks_played c.requires.is))) plays in
     elim c.match-tick.branch [

@@ -1,7 +1,7 @@
 use Rattle.std.proofs.Common.{Err, List, ap, length, subst, sym, ◌∙◌}
 use Rattle.std.proofs.lemmas.Result.{IfOk-from_err}
 use Rattle.adapter.specs.World.{World}
-use Rattle.bus.specs.Machines.{MachineState}
+use Rattle.adapter.specs.Machines.{MachineState}
 use Rattle.packet_socket.specs.HostState.{new_host}
 use Rattle.packet_socket.specs.declared.socket_kind.SocketKind.{SocketKind}
 use Rattle.wire.specs.HostsUp.{ComesUp, IsReason}

@@ -5,7 +5,7 @@ use Rattle.dma_memory.specs.Layout.{Counts, size_of}
 use Rattle.bring_up.specs.Configuration.{configured_counts}
 use Rattle.bring_up.specs.declared.init_error.InitError.{InitError}
 use Rattle.bring_up.specs.declared.init_error.InitError.TheVariants.{Memory}
-use Rattle.bus.specs.Machines.{MachineState}
+use Rattle.adapter.specs.Machines.{MachineState}
 use Rattle.wire.proofs.Telling.{passed-on}
 use Rattle.wire.proofs.host.machine_of.Goals as goal
 

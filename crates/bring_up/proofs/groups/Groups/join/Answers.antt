@@ -2,8 +2,8 @@ use Rattle.std.proofs.Common.{rules, ◌≡◌, ◌≤◌, ◌<◌, ◌++◌, �
 use Rattle.std.specs.Prelude.{false, ◌==◌}
 use Rattle.std.proofs.lemmas.Bool.{false≢true}
 use Rattle.std.proofs.lemmas.Bool.Decides.{nat_tests}
-use Rattle.rx_engine.specs.Addresses.{IsGroup}
-use Rattle.bus.specs.Calls.{at}
+use Rattle.rx_filter.specs.Addresses.{IsGroup}
+use Rattle.adapter.specs.Calls.{at}
 use Rattle.bring_up.specs.Groups.{AreJoined, ChangesJoined, with_groups}
 use Rattle.bring_up.proofs.Numbers.{joins-one}
 use Rattle.bring_up.proofs.JoinedLists.{joined-more}

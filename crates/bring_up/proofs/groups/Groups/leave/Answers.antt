@@ -2,8 +2,8 @@ use Rattle.std.proofs.Common.{◌≡◌, ℕ, List, sym, ap, subst, ◌∙◌}
 use Rattle.std.specs.Prelude.{slice_get, Some}
 use Rattle.std.proofs.lemmas.Bool.{false≢true}
 use Rattle.std.specs.List.{remove}
-use Rattle.rx_engine.specs.GroupLists.{Removes}
-use Rattle.bus.specs.Calls.{at}
+use Rattle.rx_filter.specs.GroupLists.{Removes}
+use Rattle.adapter.specs.Calls.{at}
 use Rattle.bring_up.specs.Groups.{AreJoined, ChangesJoined, with_groups}
 use Rattle.bring_up.proofs.Numbers.{leaves-one}
 use Rattle.bring_up.proofs.JoinedLists.{joined-fewer, removed-at, removed-had}

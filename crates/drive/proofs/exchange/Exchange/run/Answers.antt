@@ -1,5 +1,5 @@
 use Rattle.std.proofs.Common.{◌∙◌}
-use Rattle.bus.proofs.Keeping.{keeps-on}
+use Rattle.adapter.proofs.Keeping.{keeps-on}
 use Rattle.drive.specs.Exchanging.{moment_of}
 use Rattle.drive.proofs.Driven.{sends-written}
 use Rattle.drive.proofs.Exchanges.{still-fits}

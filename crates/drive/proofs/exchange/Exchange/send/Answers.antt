@@ -1,5 +1,5 @@
 use Rattle.std.proofs.Common.{refl}
-use Rattle.bus.proofs.Keeping.{keeps-on}
+use Rattle.adapter.proofs.Keeping.{keeps-on}
 use Rattle.drive.specs.Exchanging.{moment_of}
 use Rattle.drive.proofs.Exchanges.{exchanges-on, goes-here, goes-on, still-fits}
 use Rattle.drive.proofs.exchange.Exchange.send.Goals as goal

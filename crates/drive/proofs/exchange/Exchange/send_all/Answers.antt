@@ -1,5 +1,5 @@
 use Rattle.std.proofs.Common.{[], ◌∙◌, refl}
-use Rattle.bus.proofs.Keeping.{keeps-on}
+use Rattle.adapter.proofs.Keeping.{keeps-on}
 use Rattle.drive.specs.Exchanging.{accepted_of, moment_of}
 use Rattle.drive.proofs.Exchanges.{still-fits}
 use Rattle.drive.proofs.SentFrames.{sends-more, sends-start, sends-then}

@@ -1,7 +1,7 @@
 use Rattle.std.proofs.Common.{ap, sym}
 use Rattle.std.proofs.lemmas.List.{length-take-le}
 use Rattle.std.specs.Io.KnownBytes.{append_known}
-use Rattle.bus.proofs.Keeping.{keeps-on}
+use Rattle.adapter.proofs.Keeping.{keeps-on}
 use Rattle.packet_socket.specs.HostCalls.{host_at}
 use Rattle.packet_socket.specs.HostState.{HostState}
 use Rattle.drive.specs.Exchanging.{moment_of}

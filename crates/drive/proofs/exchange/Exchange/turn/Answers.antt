@@ -1,6 +1,6 @@
 use Rattle.std.proofs.Common.{[]}
 use Rattle.std.specs.Io.KnownBytes.{append_known}
-use Rattle.bus.proofs.Keeping.{keeps-on}
+use Rattle.adapter.proofs.Keeping.{keeps-on}
 use Rattle.packet_socket.specs.HostCalls.{host_at}
 use Rattle.drive.specs.Exchanging.{exchange_at}
 use Rattle.drive.proofs.Exchanges.{exchange-handles, exchanges-on}

@@ -1,4 +1,4 @@
-use Rattle.bus.proofs.Keeping.{keeps-on}
+use Rattle.adapter.proofs.Keeping.{keeps-on}
 use Rattle.drive.specs.Exchanging.{moment_of}
 use Rattle.drive.proofs.Exchanges.{goes-here, goes-on}
 use Rattle.drive.proofs.exchange.Exchange.wait.Goals as goal

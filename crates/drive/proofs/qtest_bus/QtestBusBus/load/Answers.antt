@@ -1,5 +1,5 @@
 use Rattle.std.proofs.Common.{length}
-use Rattle.bus.specs.declared.event.Access.TheVariants.{Loads}
+use Rattle.adapter.specs.bus_types.event.Access.TheVariants.{Loads}
 use Rattle.drive.specs.QtestLaws.{keeps_one}
 use Rattle.drive.proofs.qtest_bus.QtestBusBus.load.Goals as goal
 

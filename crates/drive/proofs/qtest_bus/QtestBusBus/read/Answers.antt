@@ -1,4 +1,4 @@
-use Rattle.bus.specs.declared.event.Access.TheVariants.{Reads}
+use Rattle.adapter.specs.bus_types.event.Access.TheVariants.{Reads}
 use Rattle.drive.specs.QtestLaws.{keeps_one}
 use Rattle.drive.proofs.qtest_bus.QtestBusBus.read.Goals as goal
 

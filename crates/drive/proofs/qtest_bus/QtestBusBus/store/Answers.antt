@@ -1,4 +1,4 @@
-use Rattle.bus.specs.declared.event.Access.TheVariants.{Stores}
+use Rattle.adapter.specs.bus_types.event.Access.TheVariants.{Stores}
 use Rattle.drive.specs.QtestLaws.{keeps_one}
 use Rattle.drive.proofs.qtest_bus.QtestBusBus.store.Goals as goal
 

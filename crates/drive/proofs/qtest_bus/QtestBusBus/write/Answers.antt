@@ -1,4 +1,4 @@
-use Rattle.bus.specs.declared.event.Access.TheVariants.{Writes}
+use Rattle.adapter.specs.bus_types.event.Access.TheVariants.{Writes}
 use Rattle.drive.specs.QtestLaws.{keeps_one}
 use Rattle.drive.proofs.qtest_bus.QtestBusBus.write.Goals as goal
 

@@ -1,15 +1,15 @@
 use Rattle.std.proofs.Common.{refl, Bool, ◌&&◌, ◌≡◌, ◌<◌, ◌-◌, ◌+◌, ◌^◌, ◌∷◌, [], ℕ, min, sym, ap, subst, ◌∙◌, arith}
-use Rattle.bus.specs.declared.event.Access.TheVariants.{Reads}
-use Rattle.bus.proofs.RegisterAccesses.{ran_by-misses}
-use Rattle.bus.specs.DriverState.{DriverState, holding}
+use Rattle.adapter.specs.bus_types.event.Access.TheVariants.{Reads}
+use Rattle.adapter.proofs.RegisterAccesses.{ran_by-misses}
+use Rattle.adapter.specs.DriverState.{DriverState, holding}
 use Rattle.driver.specs.InsideDriver.{driver_state_of}
 use Rattle.driver.proofs.driver.Driver.count_missed.Given.{Over}
 use Rattle.driver.proofs.driver.Driver.count_missed.Goals as goal
 use Rattle.driver.proofs.driver.Driver.count_missed.Goals.{then-self, else-self}
 use Rattle.adapter.specs.Table.{register_at}
 use Rattle.adapter.specs.World.{World, world_after_read}
-use Rattle.rx_engine.specs.Registers.{FilterRegisters}
-use Rattle.bus.specs.Calls.{Ran, adds_exactly, at, only, missed_added}
+use Rattle.rx_filter.specs.Registers.{FilterRegisters}
+use Rattle.adapter.specs.Calls.{Ran, adds_exactly, at, only, missed_added}
 
 is_exact : (g : Over) (c : goal.After-self-2-1 g)
     → c.if-self.self ≡ (c.self.inside.exact && adds_exactly c.self.inside.missed c.read-value.result)

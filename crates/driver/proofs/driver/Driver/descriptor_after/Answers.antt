@@ -1,12 +1,12 @@
 use Rattle.std.proofs.Common.{◌≡◌, ◌%◌, ◌+◌, ◌*◌, ℕ, ap, subst, sym, ◌∙◌, arith}
 use Rattle.descriptors.specs.declared.rx_desc.RxDesc.{RxDesc}
-use Rattle.bus.proofs.ReceiveAccesses.{ran_by-looks}
-use Rattle.bus.specs.Calls.{at}
-use Rattle.bus.specs.DriverState.{holding, receive_slot}
-use Rattle.bus.specs.OldestSlot.{LooksAtSlot, slot_after_oldest}
+use Rattle.adapter.proofs.ReceiveAccesses.{ran_by-looks}
+use Rattle.adapter.specs.Calls.{at}
+use Rattle.adapter.specs.DriverState.{holding, receive_slot}
+use Rattle.adapter.specs.OldestSlot.{LooksAtSlot, slot_after_oldest}
 use Rattle.driver.specs.InsideDriver.{driver_state_of}
 use Rattle.driver.proofs.BufferQueue.{queue-split}
-use Rattle.bus.proofs.Places.{place-sum}
+use Rattle.adapter.proofs.Places.{place-sum}
 use Rattle.driver.proofs.driver.Driver.descriptor_after.Goals as goal
 
 pub overflow_add-slot : goal.overflow_add-slot

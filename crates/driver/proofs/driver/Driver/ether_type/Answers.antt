@@ -4,13 +4,13 @@ use Rattle.std.proofs.lemmas.List.{get_or-drop, get_or-take}
 use Rattle.std.specs.List.{All}
 use Rattle.std.specs.Prelude.{slice_index_or}
 use Rattle.dma_memory.specs.Layout.{Counts}
-use Rattle.bus.specs.declared.event.Access.{Access}
-use Rattle.bus.specs.declared.event.Access.TheVariants.{Loads}
-use Rattle.bus.proofs.Lists.{all-head}
-use Rattle.bus.proofs.DriverAccesses.{ran_by-stays}
-use Rattle.bus.proofs.ReceiveAccesses.{frame-read, ran_by-reads}
-use Rattle.bus.specs.Calls.{Ran, at, ether_type_load, only}
-use Rattle.bus.specs.DriverState.{buffer_at, holding}
+use Rattle.adapter.specs.bus_types.event.Access.{Access}
+use Rattle.adapter.specs.bus_types.event.Access.TheVariants.{Loads}
+use Rattle.adapter.proofs.Lists.{all-head}
+use Rattle.adapter.proofs.DriverAccesses.{ran_by-stays}
+use Rattle.adapter.proofs.ReceiveAccesses.{frame-read, ran_by-reads}
+use Rattle.adapter.specs.Calls.{Ran, at, ether_type_load, only}
+use Rattle.adapter.specs.DriverState.{buffer_at, holding}
 use Rattle.driver.specs.Parts.{buffers_in}
 use Rattle.driver.specs.declared.parts.Part.{Part}
 use Rattle.driver.proofs.driver.Driver.ether_type.Given.{Over}

@@ -10,9 +10,9 @@ use Rattle.bring_up.specs.ConfiguredAdapters.{setup_of}
 use Rattle.bring_up.specs.Device.{IsBeforeAccess}
 use Rattle.bring_up.specs.Groups.{AreNamedOnce}
 use Rattle.bring_up.specs.declared.init_error.InitError.TheVariants.{Config}
-use Rattle.bus.proofs.Keeping.{keeps-here}
-use Rattle.bus.specs.Beginnings.{new_driver}
-use Rattle.bus.specs.DriverState.{DriverSetup, DriverState}
+use Rattle.adapter.proofs.Keeping.{keeps-here}
+use Rattle.adapter.specs.Beginnings.{new_driver}
+use Rattle.adapter.specs.DriverState.{DriverSetup, DriverState}
 use Rattle.driver.specs.InsideSetup.{setup_in}
 use Rattle.driver.specs.Initialisation.{FindsRing, RefusesInit}
 use Rattle.driver.proofs.Initialisation.{passed, refused, why-found}

@@ -1,10 +1,10 @@
 -- The oldest transmit slot is freed if the load of its descriptor shows DD.
 use Rattle.std.proofs.Common.{◌≡◌, ◌<◌, ◌+◌, ◌-◌, ◌%◌, ℕ, sym, ap, subst, ◌∙◌, arith}
-use Rattle.bus.proofs.OfferedAndFreedSlots.{none_is_written_back}
+use Rattle.adapter.proofs.OfferedAndFreedSlots.{none_is_written_back}
 use Rattle.std.proofs.Common.{inl, min, true}
-use Rattle.bus.specs.DriverState.{DriverState, holding, transmit_slot}
-use Rattle.bus.specs.Calls.{Ran, at, only}
-use Rattle.bus.specs.TransmitSteps.{with_freed}
+use Rattle.adapter.specs.DriverState.{DriverState, holding, transmit_slot}
+use Rattle.adapter.specs.Calls.{Ran, at, only}
+use Rattle.adapter.specs.TransmitSteps.{with_freed}
 use Rattle.driver.proofs.FreedSlots.{frees-none, frees-oldest, sending-freed, waits-oldest}
 use Rattle.driver.specs.SendSteps.{oldest_loads}
 use Rattle.driver.specs.InsideDriver.{IsSending, driver_state_of}

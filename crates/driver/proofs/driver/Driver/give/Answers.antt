@@ -2,9 +2,9 @@ use Rattle.std.proofs.Common.{arith, ap}
 use Rattle.dma_memory.specs.Layout.{size_of}
 use Rattle.dma_memory.specs.Owners.{copies}
 use Rattle.dma_memory.specs.OwnersLaws.{copies-append}
-use Rattle.bus.proofs.Owners.{owners-count}
-use Rattle.bus.specs.Calls.{at}
-use Rattle.bus.specs.DriverState.{DriverState, owners}
+use Rattle.adapter.proofs.Owners.{owners-count}
+use Rattle.adapter.specs.Calls.{at}
+use Rattle.adapter.specs.DriverState.{DriverState, owners}
 use Rattle.driver.specs.Parts.{buffers_in}
 use Rattle.driver.proofs.RefillSteps.{gives}
 use Rattle.driver.proofs.driver.Driver.give.Goals as goal

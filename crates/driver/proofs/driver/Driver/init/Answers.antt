@@ -8,10 +8,10 @@ use Rattle.bring_up.specs.Device.{IsBeforeAccess}
 use Rattle.bring_up.specs.DriverSteps.{LetsFramesIn}
 use Rattle.bring_up.specs.RingRegisters.{receive_writes}
 use Rattle.bring_up.proofs.RestingRings.{drivers_begin_at_rest}
-use Rattle.bus.specs.Beginnings.{new_driver}
-use Rattle.bus.specs.DriverState.{DriverSetup, DriverState, owners}
-use Rattle.bus.specs.Calls.{Ran, at, only}
-use Rattle.bus.proofs.Keeping.{keeps-here, keeps-on}
+use Rattle.adapter.specs.Beginnings.{new_driver}
+use Rattle.adapter.specs.DriverState.{DriverSetup, DriverState, owners}
+use Rattle.adapter.specs.Calls.{Ran, at, only}
+use Rattle.adapter.proofs.Keeping.{keeps-here, keeps-on}
 use Rattle.bring_up.specs.Groups.{AreNamedOnce}
 use Rattle.driver.specs.Initialisation.{RefusesInit, transmit_accesses}
 use Rattle.driver.specs.Resetting.{OffersFree}

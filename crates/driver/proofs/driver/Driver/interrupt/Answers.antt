@@ -1,9 +1,9 @@
 use Rattle.std.proofs.Common.{◌≡◌, true, false, ◌++◌, length, length-append, ap, refl, subst, ◌∙◌, arith}
-use Rattle.bus.proofs.Keeping.{keeps-on}
+use Rattle.adapter.proofs.Keeping.{keeps-on}
 use Rattle.dma_memory.specs.Layout.{size_of}
 use Rattle.registers.specs.Bits.{Meet}
-use Rattle.bus.proofs.RegisterAccesses.{reads-causes}
-use Rattle.bus.specs.DriverState.{DriverState, holding}
+use Rattle.adapter.proofs.RegisterAccesses.{reads-causes}
+use Rattle.adapter.specs.DriverState.{DriverState, holding}
 use Rattle.bring_up.specs.WrittenRegisters.{handled_causes}
 use Rattle.driver.specs.HandlerSteps.{TakesSlots, run_buffers, scene}
 use Rattle.driver.specs.Parts.{pieces_of}

@@ -1,5 +1,5 @@
 use Rattle.std.proofs.Common.{ℕ, List, ap, ◌∙◌}
-use Rattle.bus.specs.DriverState.{holding}
+use Rattle.adapter.specs.DriverState.{holding}
 use Rattle.driver.specs.InsideDriver.{driver_state_of}
 use Rattle.driver.proofs.MappedResults.{on_err-map}
 use Rattle.driver.proofs.driver.Driver.leave.Goals as goal

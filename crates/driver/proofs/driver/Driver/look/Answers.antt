@@ -1,9 +1,9 @@
 use Rattle.std.proofs.Common.{◌≡◌, Bool, List, length, length-set, refl, replicate, sym, true, ap, ◌<◌, ◌≤◌}
 use Rattle.std.proofs.Common.{◌∙◌, arith}
 use Rattle.std.specs.Prelude.{IsTrue}
-use Rattle.bus.proofs.Keeping.{keeps-here, keeps-on}
-use Rattle.bus.specs.Calls.{IsReadyOver, at, held_at}
-use Rattle.bus.specs.DriverState.{HandedOut, holding}
+use Rattle.adapter.proofs.Keeping.{keeps-here, keeps-on}
+use Rattle.adapter.specs.Calls.{IsReadyOver, at, held_at}
+use Rattle.adapter.specs.DriverState.{HandedOut, holding}
 use Rattle.adapter.specs.HostFrames.{finished_pieces}
 use Rattle.driver.specs.declared.look.Run.{Run}
 use Rattle.driver.proofs.SeenSlots.{IsAdded, LoadsNext, NextSeen, fills-added, finds-all_seen, finds-frame, finds-unfinished}

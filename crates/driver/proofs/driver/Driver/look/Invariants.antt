@@ -1,8 +1,8 @@
 use Rattle.std.proofs.Common.{◌-◌, ◌≡◌, ◌*◌, ◌≤◌, Bool, List, length, sum, take}
 use Rattle.std.specs.Prelude.{IsTrue}
-use Rattle.bus.specs.Keeping.{Keeps}
-use Rattle.bus.specs.Calls.{IsReadyOver, at, held_at}
-use Rattle.bus.specs.DriverState.{HandedOut, holding}
+use Rattle.adapter.specs.Keeping.{Keeps}
+use Rattle.adapter.specs.Calls.{IsReadyOver, at, held_at}
+use Rattle.adapter.specs.DriverState.{HandedOut, holding}
 use Rattle.driver.specs.Parts.{AreFull}
 use Rattle.driver.proofs.SeenSlots.{SeesSlots}
 use Rattle.driver.proofs.driver.Driver.look.Given as goal

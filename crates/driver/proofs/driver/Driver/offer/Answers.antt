@@ -1,10 +1,10 @@
 use Rattle.std.proofs.Common.{◌≡◌, ◌∷◌, [], ℕ, List, length, refl, sym, ap, subst, ◌∙◌}
-use Rattle.bus.proofs.Keeping.{keeps-here}
-use Rattle.bus.specs.declared.event.Access.{Access}
-use Rattle.bus.specs.declared.event.Access.TheVariants.{Writes}
-use Rattle.bus.proofs.DriverAccesses.{ran_by-stays}
-use Rattle.bus.specs.Calls.{Ran, at, only, tail_write}
-use Rattle.bus.specs.DriverState.{DriverState, holding, next_receive}
+use Rattle.adapter.proofs.Keeping.{keeps-here}
+use Rattle.adapter.specs.bus_types.event.Access.{Access}
+use Rattle.adapter.specs.bus_types.event.Access.TheVariants.{Writes}
+use Rattle.adapter.proofs.DriverAccesses.{ran_by-stays}
+use Rattle.adapter.specs.Calls.{Ran, at, only, tail_write}
+use Rattle.adapter.specs.DriverState.{DriverState, holding, next_receive}
 use Rattle.driver.specs.InsideDriver.{driver_state_of}
 use Rattle.driver.proofs.BufferQueue.{no_second-inside, offered-inside, queue-split, tail_write-none}
 use Rattle.driver.proofs.BufferQueue.{tail_write-some}

@@ -1,8 +1,8 @@
 use Rattle.std.proofs.Common.{◌∷◌, [], sym, subst, ◌∙◌}
-use Rattle.bus.specs.declared.event.Access.TheVariants.{Writes}
-use Rattle.bus.proofs.ReceiveAccesses.{ran_by-offers}
-use Rattle.bus.specs.Calls.{Ran, at, only}
-use Rattle.bus.specs.DriverState.{DriverState, holding, next_receive}
+use Rattle.adapter.specs.bus_types.event.Access.TheVariants.{Writes}
+use Rattle.adapter.proofs.ReceiveAccesses.{ran_by-offers}
+use Rattle.adapter.specs.Calls.{Ran, at, only}
+use Rattle.adapter.specs.DriverState.{DriverState, holding, next_receive}
 use Rattle.driver.specs.InsideDriver.{driver_state_of}
 use Rattle.driver.proofs.BufferQueue.{no_second-inside, none-staged, offered-inside, owners-offered, queue-split}
 use Rattle.driver.proofs.driver.Driver.offer_all.Goals as goal

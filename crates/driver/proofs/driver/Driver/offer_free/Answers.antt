@@ -1,9 +1,9 @@
 use Rattle.std.proofs.Common.{false, ◌≡◌, ◌<◌, ◌-◌, ◌*◌, ◌++◌, ℕ, List, length, ap, subst, sym, ◌∙◌, arith}
 use Rattle.dma_memory.specs.Layout.{Counts, ReceiveRing}
 use Rattle.dma_memory.specs.LayoutLaws.{place-below_size}
-use Rattle.bus.proofs.Keeping.{keeps-on}
-use Rattle.bus.specs.Calls.{Ran, at, only}
-use Rattle.bus.specs.DriverState.{DriverState}
+use Rattle.adapter.proofs.Keeping.{keeps-on}
+use Rattle.adapter.specs.Calls.{Ran, at, only}
+use Rattle.adapter.specs.DriverState.{DriverState}
 use Rattle.bring_up.specs.ClearedDescriptors.{clears_from}
 use Rattle.driver.proofs.BufferQueue.{queue-split}
 use Rattle.driver.proofs.FreeSlots.{offers-free}

@@ -1,5 +1,5 @@
 use Rattle.std.proofs.Common.{length, ap, arith}
-use Rattle.bus.specs.DriverState.{DriverState}
+use Rattle.adapter.specs.DriverState.{DriverState}
 use Rattle.driver.proofs.BufferQueue.{no_second-inside, queue-split}
 use Rattle.driver.proofs.driver.Driver.outstanding.Goals as goal
 

@@ -1,7 +1,7 @@
 use Rattle.std.proofs.Common.{◌≡◌, ◌<◌, ◌^◌, ◌++◌, ◌∷◌, [], ℕ, List, sym, ap, subst, ◌∙◌, arith}
 use Rattle.dma_memory.specs.Owners.{copies}
-use Rattle.bus.specs.Calls.{Ran, at, ether_type_load, only}
-use Rattle.bus.specs.DriverState.{DriverState, holding, piece_numbers, owners}
+use Rattle.adapter.specs.Calls.{Ran, at, ether_type_load, only}
+use Rattle.adapter.specs.DriverState.{DriverState, holding, piece_numbers, owners}
 use Rattle.driver.specs.HandlerSteps.{Shows}
 use Rattle.driver.specs.Parts.{buffers_in}
 use Rattle.driver.specs.declared.receiver.Received.{Received}

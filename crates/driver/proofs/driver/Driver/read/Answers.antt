@@ -2,11 +2,11 @@ use Rattle.std.proofs.Common.{◌≡◌, ◌<◌, ◌≤◌, ◌+◌, ◌-◌, �
 use Rattle.std.proofs.Common.{rules, ℕ, List, length, sum, take, drop, refl, sym, ap, subst, arith}
 use Rattle.std.proofs.lemmas.List.{length-map, take_all}
 use Rattle.std.proofs.lemmas.Slice.{drop-put_mid, take-put_mid}
-use Rattle.bus.proofs.Keeping.{keeps-here, keeps-on}
+use Rattle.adapter.proofs.Keeping.{keeps-here, keeps-on}
 use Rattle.dma_memory.specs.Layout.{receive_buffer_bytes}
-use Rattle.bus.proofs.DriverAccesses.{ran_by-stays}
-use Rattle.bus.specs.Calls.{Ran, at, only}
-use Rattle.bus.specs.DriverState.{buffer_at, frame_of, holding}
+use Rattle.adapter.proofs.DriverAccesses.{ran_by-stays}
+use Rattle.adapter.specs.Calls.{Ran, at, only}
+use Rattle.adapter.specs.DriverState.{buffer_at, frame_of, holding}
 use Rattle.driver.specs.Parts.{lengths_in, part_loads, part_of}
 use Rattle.driver.specs.declared.parts.Part.{Part}
 use Rattle.driver.proofs.ReadFrames.{all-values, bytes-next, copied-long, frame-next}

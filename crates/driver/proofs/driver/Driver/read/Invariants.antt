@@ -1,7 +1,7 @@
 use Rattle.std.proofs.Common.{◌-◌, ◌≡◌, ◌≤◌, ◌++◌, Bool, List, length, take, drop}
-use Rattle.bus.specs.Keeping.{Keeps}
-use Rattle.bus.specs.Calls.{IsReadyOver, Ran, at, held_at, only}
-use Rattle.bus.specs.DriverState.{HandedOut, frame_of}
+use Rattle.adapter.specs.Keeping.{Keeps}
+use Rattle.adapter.specs.Calls.{IsReadyOver, Ran, at, held_at, only}
+use Rattle.adapter.specs.DriverState.{HandedOut, frame_of}
 use Rattle.driver.specs.Parts.{part_loads, parts_of}
 use Rattle.driver.proofs.ReadFrames.{bytes_before}
 use Rattle.driver.proofs.driver.Driver.read.Given as goal

@@ -1,7 +1,7 @@
 use Rattle.std.proofs.Common.{◌++◌, ap, sym, ◌∙◌}
 use Rattle.dma_memory.specs.Owners.{copies}
-use Rattle.bus.specs.Calls.{at}
-use Rattle.bus.specs.DriverState.{DriverState}
+use Rattle.adapter.specs.Calls.{at}
+use Rattle.adapter.specs.DriverState.{DriverState}
 use Rattle.driver.proofs.RefillSteps.{owners-staged, refills}
 use Rattle.driver.proofs.driver.Driver.refill.Goals as goal
 

@@ -4,24 +4,24 @@ use Rattle.registers.specs.Laws.{HasBit-zero}
 use Rattle.dma_memory.specs.Layout.{Counts, ReceiveRing, size_of}
 use Rattle.dma_memory.specs.LayoutLaws.{place-below_size}
 use Rattle.dma_memory.specs.Owners.{HaveSameNumbers}
-use Rattle.bus.proofs.Keeping.{keeps-on}
-use Rattle.bus.specs.Settings.{IsOff}
-use Rattle.bus.specs.declared.event.Access.TheVariants.{Reads, Writes}
+use Rattle.adapter.proofs.Keeping.{keeps-on}
+use Rattle.adapter.specs.Settings.{IsOff}
+use Rattle.adapter.specs.bus_types.event.Access.TheVariants.{Reads, Writes}
 use Rattle.bring_up.specs.Configuration.{IsValidIn, configured_counts, vlans_of}
 use Rattle.bring_up.specs.ConfiguredAdapters.{names_vlans, setup_of}
 use Rattle.bring_up.specs.FilterSetting.{SetsFilter}
 use Rattle.bring_up.specs.declared.config.Config.{Config}
-use Rattle.bus.proofs.Lists.{all-none}
-use Rattle.rx_engine.specs.Addresses.{IsGroup}
+use Rattle.adapter.proofs.Lists.{all-none}
+use Rattle.rx_filter.specs.Addresses.{IsGroup}
 use Rattle.bring_up.specs.DriverSteps.{LetsFramesIn}
 use Rattle.bring_up.specs.RestingRings.{HasNewRings, HasReceiveRing, SetsAtRest}
 use Rattle.bring_up.specs.RingRegisters.{receive_writes, ring_setup_writes}
 use Rattle.bring_up.specs.declared.ring_registers.RingPlace.{RingPlace}
-use Rattle.bus.proofs.DriverAccesses.{ran_by-join}
-use Rattle.bus.specs.Calls.{IsRefilled, Ran, at, only, missed_added}
-use Rattle.bus.specs.DriverState.{DriverState, holding, owners, with_owners}
-use Rattle.bus.specs.ReadyDrivers.{ReadyWith}
-use Rattle.bus.specs.Resets.{reset_driver}
+use Rattle.adapter.proofs.DriverAccesses.{ran_by-join}
+use Rattle.adapter.specs.Calls.{IsRefilled, Ran, at, only, missed_added}
+use Rattle.adapter.specs.DriverState.{DriverState, holding, owners, with_owners}
+use Rattle.adapter.specs.ReadyDrivers.{ReadyWith}
+use Rattle.adapter.specs.Resets.{reset_driver}
 use Rattle.driver.specs.Resetting.{Resets, free_accesses, stop_accesses}
 use Rattle.driver.proofs.Initialisation.{vlans-named}
 use Rattle.driver.proofs.ResetOwners.{reset-owners}

@@ -1,9 +1,9 @@
 -- The frame's slot, `next_transmit`, is the slot after the outstanding slots.
 use Rattle.std.proofs.Common.{◌≡◌, ◌+◌, ◌%◌, ℕ, length, true, sym, ap, subst, ◌∙◌, arith}
-use Rattle.bus.proofs.Keeping.{keeps-on}
-use Rattle.bus.proofs.TransmitRuns.{run-sends}
-use Rattle.bus.specs.DriverState.{DriverState, holding, transmit_slot, transmit_tail}
-use Rattle.bus.specs.Calls.{Ran, at, transmit_buffer, whole_descriptor}
+use Rattle.adapter.proofs.Keeping.{keeps-on}
+use Rattle.adapter.proofs.TransmitRuns.{run-sends}
+use Rattle.adapter.specs.DriverState.{DriverState, holding, transmit_slot, transmit_tail}
+use Rattle.adapter.specs.Calls.{Ran, at, transmit_buffer, whole_descriptor}
 use Rattle.driver.proofs.SentFrames.{next-slot, sending-more}
 use Rattle.driver.specs.SendSteps.{sent_now}
 use Rattle.driver.specs.InsideDriver.{IsSending}

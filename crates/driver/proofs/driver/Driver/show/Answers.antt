@@ -1,4 +1,4 @@
-use Rattle.bus.specs.DriverState.{owners}
+use Rattle.adapter.specs.DriverState.{owners}
 use Rattle.driver.proofs.ShownRuns.{answer-owners, answer-shown}
 use Rattle.driver.proofs.driver.Driver.show.Goals as goal
 

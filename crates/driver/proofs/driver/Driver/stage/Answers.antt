@@ -1,13 +1,13 @@
 use Rattle.std.proofs.Common.{◌≡◌, ◌<◌, ◌+◌, ◌*◌, ◌%◌, ◌∷◌, [], ℕ, length, sym, refl, inl, inr, ap, subst, ◌∙◌, arith}
-use Rattle.bus.proofs.Keeping.{keeps-here}
+use Rattle.adapter.proofs.Keeping.{keeps-here}
 use Rattle.dma_memory.specs.Layout.{ReceiveRing}
 use Rattle.dma_memory.specs.LayoutLaws.{place-below_size}
 use Rattle.dma_memory.specs.Numbers.{Numbers}
 use Rattle.descriptors.specs.Laws.{length-rx_desc_bytes}
-use Rattle.bus.proofs.ReceiveAccesses.{ran_by-stages}
-use Rattle.bus.specs.Calls.{Ran, at, only, stores_from}
-use Rattle.bus.specs.DriverState.{DriverState, buffer_at, holding, next_receive}
-use Rattle.bus.specs.ReadyDrivers.{empty_descriptor}
+use Rattle.adapter.proofs.ReceiveAccesses.{ran_by-stages}
+use Rattle.adapter.specs.Calls.{Ran, at, only, stores_from}
+use Rattle.adapter.specs.DriverState.{DriverState, buffer_at, holding, next_receive}
+use Rattle.adapter.specs.ReadyDrivers.{empty_descriptor}
 use Rattle.driver.specs.InsideDriver.{IsConsistentDriver, driver_state_of}
 use Rattle.driver.specs.declared.driver.Driver.TheInside.{Inside}
 use Rattle.driver.proofs.BufferQueue.{queue-split, room-inside, slots-inside, staged-inside}

@@ -1,8 +1,8 @@
 use Rattle.std.proofs.Common.{◌∷◌, [], ap, length, length-append, arith}
 use Rattle.dma_memory.specs.Layout.{size_of}
-use Rattle.bus.proofs.Keeping.{keeps-here, keeps-on}
-use Rattle.bus.specs.Calls.{at}
-use Rattle.bus.specs.DriverState.{DriverState}
+use Rattle.adapter.proofs.Keeping.{keeps-here, keeps-on}
+use Rattle.adapter.specs.Calls.{at}
+use Rattle.adapter.specs.DriverState.{DriverState}
 use Rattle.driver.proofs.RefillSteps.{stages-join, stages-none}
 use Rattle.driver.proofs.driver.Driver.stage_all.Goals as goal
 

@@ -1,6 +1,6 @@
 use Rattle.std.proofs.Common.{◌+◌, ◌-◌, length}
-use Rattle.bus.specs.Keeping.{Keeps}
-use Rattle.bus.specs.Calls.{at}
+use Rattle.adapter.specs.Keeping.{Keeps}
+use Rattle.adapter.specs.Calls.{at}
 use Rattle.driver.specs.RefillSteps.{StagesSome}
 use Rattle.driver.proofs.driver.Driver.stage_all.Given as goal
 

@@ -1,7 +1,7 @@
 use Rattle.std.proofs.Common.{Bool, true, false, ℕ, List, ◌≡◌, ◌≤◌, ◌+◌, ◌++◌, ◌∷◌, [], length, sum, ap, sym, subst, ◌∙◌, arith}
-use Rattle.bus.proofs.Keeping.{keeps-here, keeps-on}
+use Rattle.adapter.proofs.Keeping.{keeps-here, keeps-on}
 use Rattle.dma_memory.specs.Layout.{size_of}
-use Rattle.bus.specs.DriverState.{DriverState}
+use Rattle.adapter.specs.DriverState.{DriverState}
 use Rattle.std.specs.Int.{from_bool}
 use Rattle.driver.specs.declared.parts.Part.{Part}
 use Rattle.driver.specs.HandlerSteps.{run_with, whole_frames}

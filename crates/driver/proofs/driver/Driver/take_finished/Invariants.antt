@@ -1,5 +1,5 @@
 use Rattle.std.proofs.Common.{◌≤◌, ◌-◌, ◌^◌, length}
-use Rattle.bus.specs.Keeping.{Keeps}
+use Rattle.adapter.specs.Keeping.{Keeps}
 use Rattle.driver.specs.HandlerSteps.{scene}
 use Rattle.driver.proofs.TakenFrames.{Walks}
 use Rattle.driver.proofs.driver.Driver.take_finished.Given as goal

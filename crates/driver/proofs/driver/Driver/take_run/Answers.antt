@@ -1,7 +1,7 @@
 use Rattle.std.proofs.Common.{◌≡◌, ◌+◌, ◌%◌, ◌++◌, ℕ, List, length, length-take, take, drop, sym, ap, subst, ◌∙◌, arith}
 use Rattle.circular_buffer.specs.Buffer.{buffer}
 use Rattle.dma_memory.specs.Owners.{HasNoSecondOwner}
-use Rattle.bus.specs.DriverState.{DriverState, owners}
+use Rattle.adapter.specs.DriverState.{DriverState, owners}
 use Rattle.driver.specs.InsideDriver.{driver_state_of}
 use Rattle.driver.specs.Parts.{buffers_in}
 use Rattle.driver.proofs.TakenBuffers.{HasTaken, taken-inside, with_queue}

@@ -1,11 +1,11 @@
 -- Slots are freed, and then the frame is sent if there is room.
 use Rattle.std.proofs.Common.{◌≡◌, ◌+◌, ◌∙◌, sym, ap, arith}
-use Rattle.bus.proofs.Keeping.{keeps-here, keeps-on}
+use Rattle.adapter.proofs.Keeping.{keeps-here, keeps-on}
 use Rattle.dma_memory.specs.Layout.{size_of}
-use Rattle.bus.proofs.DriverAccesses.{ran_by-stays}
-use Rattle.bus.proofs.Calls.{ready-on}
-use Rattle.bus.specs.Calls.{at, held_at}
-use Rattle.bus.specs.DriverState.{DriverState, holding}
+use Rattle.adapter.proofs.DriverAccesses.{ran_by-stays}
+use Rattle.adapter.proofs.Calls.{ready-on}
+use Rattle.adapter.specs.Calls.{at, held_at}
+use Rattle.adapter.specs.DriverState.{DriverState, holding}
 use Rattle.driver.specs.SendSteps.{with_transmit_slots}
 use Rattle.driver.proofs.SentFrames.{frees-and-sends, was-full}
 use Rattle.driver.proofs.FreedSlots.{HasReclaimed, has-reclaimed, has_freed-more, has_freed-none}

@@ -1,5 +1,5 @@
-use Rattle.bus.specs.Keeping.{Keeps}
-use Rattle.bus.specs.Calls.{at}
+use Rattle.adapter.specs.Keeping.{Keeps}
+use Rattle.adapter.specs.Calls.{at}
 use Rattle.driver.proofs.FreedSlots.{HasFreed}
 use Rattle.driver.proofs.driver.Driver.transmit.Given as goal
 

@@ -12,7 +12,7 @@ pending-requires-clause-sending c = can-read_sending
     c.requires.ready c.requires.adapter).ready.ready
 
 pub pending-requires-clause-holding : goal.pending-requires-clause-holding
-pending-requires-clause-holding c = rw c.oldest_receive.ensures (can-read_held
+pending-requires-clause-holding c = rw c.oldest.ensures (can-read_held
     (found-host (has-host c.self.view_is c.self.invariant c.requires.there c.index-host.ensures)
     c.requires.ready c.requires.adapter).ready.ready)
 
@@ -36,7 +36,7 @@ pub pending-requires-clause-holding_room : goal.pending-requires-clause-holding_
 pending-requires-clause-holding_room c =
     let few = held-within (c.from.result + c.from-2.result)
     (found-host (has-host c.self.view_is c.self.invariant c.requires.there c.index-host.ensures)
-    c.requires.ready c.requires.adapter) c.layout-layout.ensures c.oldest_receive.ensures
+    c.requires.ready c.requires.adapter) c.layout-layout.ensures c.oldest.ensures
     (omega (arith, c.from.ensures, c.from-2.ensures, c.rx.ensures.count)) in
     omega (arith, few, ap length c.reserve-2.ensures.items, ap length c.new-holding.ensures.items, c.in_ok-reserve-2.ensures.ok)
 
@@ -50,9 +50,9 @@ returns c =
           (c.pending.ensures.sending
           ∙ ap (λ (list : List (List ℕ)). list ++ frames_to_send w) (c.reserve.ensures.items ∙ c.new-sending.ensures.items))
           (c.pending.ensures.holding
-          ∙ ap (λ (list : List (List ℕ)). list ++ frames_held c.oldest_receive.result w)
+          ∙ ap (λ (list : List (List ℕ)). list ++ frames_held c.oldest.result w)
           (c.reserve-2.ensures.items ∙ c.new-holding.ensures.items)
-          ∙ ap (λ (o : ℕ). frames_held o w) c.oldest_receive.ensures)
+          ∙ ap (λ (o : ℕ). frames_held o w) c.oldest.ensures)
           (omega (
             arith,
             c.in_ok-reserve-2.ensures.ok,

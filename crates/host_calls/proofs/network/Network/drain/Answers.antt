@@ -61,8 +61,8 @@ returns-clause-left g c =
       two.room,
       ap length one.appended,
       ap length two.appended,
-      length-append (g.S.FrameSink.frames c.args.sink.now) one.given,
-      length-append (g.S.FrameSink.frames c.loop-bytes.sink) two.given,
+      length-append (g.S.Outlet.frames c.args.sink.now) one.given,
+      length-append (g.S.Outlet.frames c.loop-bytes.sink) two.given,
     )
 
 pub returns-clause-others : goal.returns-clause-others

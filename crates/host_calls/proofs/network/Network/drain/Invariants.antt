@@ -1,7 +1,7 @@
 use Rattle.adapter.specs.State.{IsAdapter}
 use Rattle.stations.specs.Stations.{world_at}
 use Rattle.host_calls.specs.DrainedHosts.{CanBeDrained}
-use Rattle.host_calls.specs.DrainSteps.{StepsInto, count_steps, frame_sink}
+use Rattle.host_calls.specs.DrainSteps.{StepsInto, count_steps, outlet}
 use Rattle.host_calls.specs.Networks.{OnlyHostChanges, connected_at, nth_host}
 use Rattle.host_calls.proofs.network.Network.drain.Given as goal
 
@@ -9,8 +9,8 @@ use Rattle.host_calls.proofs.network.Network.drain.Given as goal
 -- drained. If `IsAdapter` holds now, it held at the beginning.
 abbrev pub invariant-loop-bytes : goal.invariant-loop-bytes
 invariant-loop-bytes g l = record {
-  into : StepsInto l.steps l.number (frame_sink (g.S.FrameSink.frames l.fn.sink) (g.S.FrameSink.room_left l.fn.sink))
-      (frame_sink (g.S.FrameSink.frames l.sink) (g.S.FrameSink.room_left l.sink)) (connected_at l.fn.self l.number)
+  into : StepsInto l.steps l.number (outlet (g.S.Outlet.frames l.fn.sink) (g.S.Outlet.room_left l.fn.sink))
+      (outlet (g.S.Outlet.frames l.sink) (g.S.Outlet.room_left l.sink)) (connected_at l.fn.self l.number)
       (connected_at l.self l.number);
   stands : CanBeDrained (nth_host l.self l.number) (world_at l.self.stations l.number);
   adapter : IsAdapter (world_at l.self.stations l.number).adapter → IsAdapter (world_at l.fn.self.stations l.number).adapter;

@@ -1,6 +1,6 @@
 use Rattle.std.proofs.Common.{List, subst, sym}
 use Rattle.adapter.specs.State.{IsAdapter}
-use Rattle.adapter.specs.declared.step.StepKind.TheVariants.{RxDone}
+use Rattle.adapter.specs.model_types.step.StepKind.TheVariants.{RxDone}
 use Rattle.stations.specs.Stations.{StationState, world_at}
 use Rattle.host_calls.proofs.AdapterSteps.{finishes-done, finishes-free, finishes-none, has-stepped, same-stepped}
 use Rattle.host_calls.proofs.HostsOfNetworks.{drained-here, found-steps, stations-are}

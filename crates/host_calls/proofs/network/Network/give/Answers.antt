@@ -13,7 +13,7 @@ returns-in-Ok-clause-steps g c =
     let called = c.call-called in
     let socket = c.args.socket in
     let frame = take c.in-Ok.size called.new.into in
-    let before = g.S.FrameSink.frames c.args.sink.now in
+    let before = g.S.Outlet.frames c.args.sink.now in
     record {
       given = given_by socket (Ok frame);
       appended = c.take.ensures.last ∙ ap (λ (bytes : List ℕ). let one : Given = record { socket = socket; frame = bytes } in

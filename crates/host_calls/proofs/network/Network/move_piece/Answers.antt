@@ -1,5 +1,5 @@
 use Rattle.std.proofs.Common.{List, ap, subst, sym, ◌∙◌}
-use Rattle.adapter.specs.declared.step.StepKind.TheVariants.{RxData}
+use Rattle.adapter.specs.model_types.step.StepKind.TheVariants.{RxData}
 use Rattle.registers.specs.Bits.{Meet}
 use Rattle.packet_socket.specs.HostState.{HostState}
 use Rattle.stations.specs.Stations.{StationState, world_at}

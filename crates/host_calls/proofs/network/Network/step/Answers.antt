@@ -30,7 +30,7 @@ give-requires-clause-waits g c = (first-waits c.in-Some.socket
 pub give-requires-clause-room : goal.give-requires-clause-room
 give-requires-clause-room g c =
     room-left (nth_host c.args.self.now c.args.number) (world_at c.args.self.now.stations c.args.number) c.in-Some.socket
-    (g.S.FrameSink.room_left c.args.sink.now)
+    (g.S.Outlet.room_left c.args.sink.now)
     (subst (λ (list : List HostState). queue_at (host_or_empty (slice_get list c.args.number)).queues c.in-Some.socket ≢ [])
     c.finish.ensures.hosts (first-waits c.in-Some.socket
     (has-host c.self.view_is c.self.invariant (still-has c.finish.ensures.hosts c.requires.there) c.index.ensures)

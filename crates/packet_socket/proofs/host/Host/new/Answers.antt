@@ -2,7 +2,7 @@ use Rattle.std.proofs.Common.{ap, refl, sym, subst, ◌∙◌}
 use Rattle.dma_memory.specs.Layout.{Counts}
 use Rattle.dma_memory.specs.OwnersLaws.{no_second_from_one}
 use Rattle.bring_up.specs.Configuration.{IsValidIn}
-use Rattle.bus.specs.DriverState.{owners}
+use Rattle.adapter.specs.DriverState.{owners}
 use Rattle.driver.proofs.Initialisation.{refused}
 use Rattle.packet_socket.proofs.ConsistentHosts.{new-host, new-ready}
 use Rattle.packet_socket.proofs.host.Host.new.Goals as goal

@@ -1,5 +1,5 @@
 use Rattle.std.proofs.Common.{arith, rules, take, ap, refl, sym, subst}
-use Rattle.bus.specs.DriverState.{DriverState}
+use Rattle.adapter.specs.DriverState.{DriverState}
 use Rattle.driver.specs.Parts.{IsFrameSize}
 use Rattle.packet_socket.specs.HostCalls.{driver_of, host_at}
 use Rattle.packet_socket.specs.InsideHost.{host_inside, host_with}

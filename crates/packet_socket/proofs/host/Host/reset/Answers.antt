@@ -1,4 +1,4 @@
-use Rattle.bus.specs.Calls.{at}
+use Rattle.adapter.specs.Calls.{at}
 use Rattle.packet_socket.specs.HostCalls.{driver_of, host_at}
 use Rattle.packet_socket.specs.InsideHost.{host_inside}
 use Rattle.packet_socket.proofs.ResetHosts.{host-resets, reset-host}

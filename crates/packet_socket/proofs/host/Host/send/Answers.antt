@@ -1,6 +1,6 @@
 use Rattle.std.proofs.Common.{ap}
-use Rattle.bus.specs.Calls.{at}
-use Rattle.bus.specs.DriverState.{DriverState}
+use Rattle.adapter.specs.Calls.{at}
+use Rattle.adapter.specs.DriverState.{DriverState}
 use Rattle.packet_socket.specs.HostCalls.{driver_of, host_at}
 use Rattle.packet_socket.specs.InsideHost.{host_inside}
 use Rattle.packet_socket.proofs.SentFrames.{host-sends}

@@ -1,5 +1,5 @@
 use Rattle.std.proofs.Common.{◌≡◌, List, ℕ, sym, ap, subst, ◌∙◌}
-use Rattle.adapter.specs.declared.outcome.Outcome.TheVariants.{Moved, Done}
+use Rattle.adapter.specs.model_types.outcome.Outcome.TheVariants.{Moved, Done}
 use Rattle.adapter.specs.Receiving.{after_data, after_done, memory_after_data_step, memory_after_done_step}
 use Rattle.adapter.specs.State.{AdapterState}
 use Rattle.pcap_bench.specs.Lane.{LaneState}

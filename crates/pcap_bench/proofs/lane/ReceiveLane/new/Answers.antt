@@ -1,8 +1,8 @@
 use Rattle.std.proofs.Common.{◌≡◌, ◌&&◌, List, ℕ, refl, sym, ap, subst, ◌∙◌, arith}
 use Rattle.std.specs.Prelude.{is_none, is_some}
-use Rattle.registers.specs.declared.phy.Link.TheVariants.{Never}
-use Rattle.rx_engine.specs.FilterLaws.{SameSets}
-use Rattle.rx_engine.specs.Registers.{filter_of}
+use Rattle.mdic_phy.specs.declared.phy.Link.TheVariants.{Never}
+use Rattle.rx_filter.specs.Laws.{SameSets}
+use Rattle.rx_filter.specs.Registers.{filter_of}
 use Rattle.adapter.specs.Registers.{after_write, filter_at_reset, new_adapter}
 use Rattle.adapter.specs.State.{AdapterState}
 use Rattle.pcap_bench.specs.declared.filter.PassFilter.{PassFilter}

@@ -1,8 +1,8 @@
 use Rattle.std.proofs.Common.{◌≡◌, ◌↔◌, ◌++◌, ℕ, List, IsTrue, length, drop, replicate, ap, subst, ◌∙◌}
 use Rattle.std.proofs.lemmas.List.{drop-replicate}
 use Rattle.descriptors.specs.Frames.{padded}
-use Rattle.rx_engine.specs.Passing.{Passes}
-use Rattle.rx_engine.specs.Registers.{filter_of}
+use Rattle.rx_filter.specs.Passing.{Passes}
+use Rattle.rx_filter.specs.Registers.{filter_of}
 use Rattle.pcap_bench.specs.Lane.{HasFrame}
 use Rattle.pcap_bench.proofs.lane.ReceiveLane.receive.Goals as goal
 

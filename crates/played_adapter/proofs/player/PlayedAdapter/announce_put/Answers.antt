@@ -1,7 +1,7 @@
 use Rattle.std.proofs.Common.{◌≡◌, ◌∷◌, [], None, ap, rules, subst, sym, true≢false, ◌∙◌}
 use Rattle.adapter.specs.Outcomes.{FrameOutcome}
-use Rattle.adapter.specs.declared.outcome.Outcome.TheVariants.{Put}
-use Rattle.adapter.specs.declared.step.StepKind.TheVariants.{TxPut}
+use Rattle.adapter.specs.model_types.outcome.Outcome.TheVariants.{Put}
+use Rattle.adapter.specs.model_types.step.StepKind.TheVariants.{TxPut}
 use Rattle.played_adapter.specs.Playing.{has_room}
 use Rattle.played_adapter.specs.Told.{Stepped}
 use Rattle.played_adapter.proofs.Putting.{expects_full, expects_none, expects_put, kept_full, kept_none, kept_not}

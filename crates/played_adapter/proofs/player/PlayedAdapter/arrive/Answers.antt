@@ -1,5 +1,5 @@
 use Rattle.std.proofs.Common.{ap, refl}
-use Rattle.bus.specs.Machines.{MachineState}
+use Rattle.adapter.specs.Machines.{MachineState}
 use Rattle.played_adapter.proofs.Happening.{happened}
 use Rattle.played_adapter.proofs.player.PlayedAdapter.arrive.Goals as goal
 

@@ -1,5 +1,5 @@
 use Rattle.std.proofs.Common.{true, length, rules}
-use Rattle.bus.specs.declared.event.Access.TheVariants.{Loads}
+use Rattle.adapter.specs.bus_types.event.Access.TheVariants.{Loads}
 use Rattle.played_adapter.specs.Playing.{Accessed, AnswersLoad}
 use Rattle.played_adapter.proofs.Happening.{accessed, not_loaded}
 use Rattle.played_adapter.proofs.Playing.{still_fits}

@@ -1,6 +1,6 @@
 use Rattle.std.proofs.Common.{◌≡◌, ◌∙◌, ◌∷◌, [], ℕ, ap, arith, length, refl, subst, sym}
 use Rattle.std.proofs.lemmas.List.{length-drop, length-take-le}
-use Rattle.bus.specs.declared.event.Access.TheVariants.{Loads}
+use Rattle.adapter.specs.bus_types.event.Access.TheVariants.{Loads}
 use Rattle.dma_memory.specs.HostMemory.{bytes_at}
 use Rattle.played_adapter.specs.Told.{Accessed}
 use Rattle.played_adapter.specs.declared.player.PlayedAdapter.{PlayedAdapter}

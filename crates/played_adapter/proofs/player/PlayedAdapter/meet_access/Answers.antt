@@ -1,7 +1,7 @@
 use Rattle.std.proofs.Common.{◌≡◌, ◌∙◌, ◌++◌, List, ap, flat_map, subst}
-use Rattle.adapter.specs.declared.step.StepKind.TheVariants.{EepromTick, PhyTick}
-use Rattle.registers.specs.Eerd.{is_pending}
-use Rattle.registers.specs.Mdic.{has_work}
+use Rattle.adapter.specs.model_types.step.StepKind.TheVariants.{EepromTick, PhyTick}
+use Rattle.eeprom.specs.Eerd.{is_pending}
+use Rattle.mdic_phy.specs.Mdic.{has_work}
 use Rattle.step_schedules.specs.declared.deviation.Action.TheVariants.{HoldEeprom, HoldPhy}
 use Rattle.played_adapter.proofs.Dues.{if_works, listed_if}
 use Rattle.step_schedules.specs.Agendas.{default_steps_held}

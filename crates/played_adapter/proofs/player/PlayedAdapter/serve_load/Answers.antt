@@ -1,5 +1,5 @@
 use Rattle.std.proofs.Common.{◌≡◌, length, rules}
-use Rattle.bus.specs.declared.event.Access.TheVariants.{Loads}
+use Rattle.adapter.specs.bus_types.event.Access.TheVariants.{Loads}
 use Rattle.dma_memory.specs.HostMemory.{bytes_at}
 use Rattle.played_adapter.specs.Playing.{Paced}
 use Rattle.played_adapter.specs.Requests.{AccessedAfter}

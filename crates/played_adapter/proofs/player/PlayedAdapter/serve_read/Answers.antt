@@ -1,4 +1,4 @@
-use Rattle.bus.specs.declared.event.Access.TheVariants.{Reads}
+use Rattle.adapter.specs.bus_types.event.Access.TheVariants.{Reads}
 use Rattle.played_adapter.proofs.Choosing.{served}
 use Rattle.played_adapter.proofs.player.PlayedAdapter.serve_read.Goals as goal
 

@@ -1,6 +1,6 @@
 use Rattle.std.proofs.Common.{length, rules}
 use Rattle.played_adapter.proofs.Playing.{draws_fit}
-use Rattle.bus.specs.declared.event.Access.TheVariants.{Stores}
+use Rattle.adapter.specs.bus_types.event.Access.TheVariants.{Stores}
 use Rattle.played_adapter.proofs.Choosing.{served}
 use Rattle.played_adapter.proofs.player.PlayedAdapter.serve_store.Goals as goal
 

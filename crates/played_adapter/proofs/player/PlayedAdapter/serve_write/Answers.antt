@@ -1,4 +1,4 @@
-use Rattle.bus.specs.declared.event.Access.TheVariants.{Writes}
+use Rattle.adapter.specs.bus_types.event.Access.TheVariants.{Writes}
 use Rattle.played_adapter.proofs.Choosing.{served}
 use Rattle.played_adapter.proofs.player.PlayedAdapter.serve_write.Goals as goal
 

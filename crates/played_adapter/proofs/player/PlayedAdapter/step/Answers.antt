@@ -1,6 +1,6 @@
 use Rattle.std.proofs.Common.{◌≡◌, ap, sym, ◌∙◌, ◌∷◌, [], None, Option}
 use Rattle.adapter.specs.Outcomes.{FrameOutcome, framed}
-use Rattle.adapter.specs.declared.step.StepKind.TheVariants.{TxPut}
+use Rattle.adapter.specs.model_types.step.StepKind.TheVariants.{TxPut}
 use Rattle.access_names.specs.declared.engine_fault.EngineFault.{EngineFault}
 use Rattle.played_adapter.specs.Playing.{after_played_step, expected, fault_told, has_room, step_of}
 use Rattle.played_adapter.specs.Told.{Stepped}

@@ -1,5 +1,5 @@
 use Rattle.std.proofs.Common.{true, length, rules}
-use Rattle.bus.specs.declared.event.Access.TheVariants.{Stores}
+use Rattle.adapter.specs.bus_types.event.Access.TheVariants.{Stores}
 use Rattle.played_adapter.specs.Playing.{Accessed, AnswersStore}
 use Rattle.played_adapter.proofs.Happening.{accessed}
 use Rattle.played_adapter.proofs.Playing.{still_fits}

@@ -1,5 +1,5 @@
 use Rattle.std.proofs.Common.{rules, subst}
-use Rattle.bus.specs.declared.event.Access.TheVariants.{Writes}
+use Rattle.adapter.specs.bus_types.event.Access.TheVariants.{Writes}
 use Rattle.played_adapter.specs.Order.{Tells}
 use Rattle.played_adapter.specs.Playing.{Accessed}
 use Rattle.played_adapter.specs.declared.player.PlayedAdapter.{PlayedAdapter}

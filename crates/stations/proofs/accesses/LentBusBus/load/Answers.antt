@@ -1,7 +1,7 @@
 use Rattle.std.proofs.Common.{ap, arith, length, refl, subst, ◌∙◌}
 use Rattle.adapter.specs.State.{IsAdapter}
 use Rattle.adapter.specs.World.{World}
-use Rattle.bus.specs.declared.event.Access.TheVariants.{Loads}
+use Rattle.adapter.specs.bus_types.event.Access.TheVariants.{Loads}
 use Rattle.dma_memory.specs.HostMemory.{bytes_at}
 use Rattle.stations.proofs.LentAccesses.{access-keeps, acted, load-leaves, size-prepared}
 use Rattle.stations.proofs.accesses.LentBusBus.load.Goals as goal

@@ -1,6 +1,6 @@
 use Rattle.std.proofs.Common.{refl}
-use Rattle.bus.specs.declared.event.Access.TheVariants.{Reads}
-use Rattle.bus.specs.declared.event.Event.TheVariants.{Accesses}
+use Rattle.adapter.specs.bus_types.event.Access.TheVariants.{Reads}
+use Rattle.adapter.specs.bus_types.event.Event.TheVariants.{Accesses}
 use Rattle.stations.proofs.LentAccesses.{access-keeps, acted, still-there}
 use Rattle.stations.proofs.accesses.LentBusBus.read.Goals as goal
 

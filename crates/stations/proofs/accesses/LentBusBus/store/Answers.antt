@@ -1,8 +1,8 @@
 use Rattle.std.proofs.Common.{arith}
 use Rattle.dma_memory.specs.Laws.{length-with_bytes}
-use Rattle.bus.specs.declared.event.Access.TheVariants.{Stores}
+use Rattle.adapter.specs.bus_types.event.Access.TheVariants.{Stores}
 use Rattle.stations.specs.LentBuses.{world_here}
-use Rattle.bus.specs.declared.event.Event.TheVariants.{Accesses}
+use Rattle.adapter.specs.bus_types.event.Event.TheVariants.{Accesses}
 use Rattle.stations.proofs.LentAccesses.{access-keeps, acted, size-prepared, still-there}
 use Rattle.stations.proofs.accesses.LentBusBus.store.Goals as goal
 

@@ -1,5 +1,5 @@
 use Rattle.std.proofs.Common.{◌≡◌, [], List, arith, refl, subst, sym}
-use Rattle.bus.specs.TickGroups.{without_go}
+use Rattle.adapter.specs.TickGroups.{without_go}
 use Rattle.stations.specs.AtomicRuns.{is_go}
 use Rattle.stations.specs.LentBuses.{watched_by}
 use Rattle.stations.specs.PlayedTicks.{PlaysTicks}

@@ -1,5 +1,5 @@
 use Rattle.std.proofs.Common.{rules, ◌≡◌, ◌++◌, ◌∷◌, [], List, ap, arith, length, sym, take, ◌∙◌}
-use Rattle.bus.specs.Machines.{MachineState}
+use Rattle.adapter.specs.Machines.{MachineState}
 use Rattle.stations.specs.Ends.{EndState}
 use Rattle.stations.specs.StationsView.{station_of, stations_of}
 use Rattle.stations.specs.Stations.{StationState}

@@ -1,5 +1,5 @@
 use Rattle.std.proofs.Common.{◌≡◌, ◌≢◌, arith, rules, subst, sym, ◌∙◌}
-use Rattle.adapter.specs.declared.step.StepKind.TheVariants.{TxPut}
+use Rattle.adapter.specs.model_types.step.StepKind.TheVariants.{TxPut}
 use Rattle.std.proofs.lemmas.Option.{slice_get_past}
 use Rattle.stations.specs.AtomicSteps.{FindsNothing, PlaysNoted, watched}
 use Rattle.stations.specs.declared.tick.Tick.{Tick}

@@ -1,5 +1,5 @@
 use Rattle.std.proofs.Common.{◌≡◌, ◌∷◌, [], List, ap, arith, subst, sym, ◌∙◌}
-use Rattle.bus.specs.TickGroups.{behind_group, group_of}
+use Rattle.adapter.specs.TickGroups.{behind_group, group_of}
 use Rattle.stations.specs.AtomicRuns.{is_go}
 use Rattle.stations.specs.AtomicSteps.{watched}
 use Rattle.stations.specs.declared.tick.Tick.{Tick}

@@ -1,7 +1,7 @@
 use Rattle.std.proofs.Common.{arith, ◌≡◌, subst}
 use Rattle.adapter.specs.Registers.{answer_at}
 use Rattle.adapter.specs.World.{World}
-use Rattle.bus.specs.declared.event.Access.TheVariants.{Reads}
+use Rattle.adapter.specs.bus_types.event.Access.TheVariants.{Reads}
 use Rattle.stations.proofs.Hosts.{access-after, below-machines, has-adapter, shows}
 use Rattle.stations.proofs.stations.Stations.read.Goals as goal
 

@@ -1,8 +1,8 @@
 use Rattle.std.proofs.Common.{arith, ◌≡◌, ◌∙◌, refl, sym, subst, true}
 use Rattle.adapter.specs.Outcomes.{framed}
 use Rattle.adapter.specs.World.{World}
-use Rattle.bus.specs.Trails.{Occurs}
-use Rattle.bus.specs.declared.event.Event.TheVariants.{Steps}
+use Rattle.adapter.specs.Trails.{Occurs}
+use Rattle.adapter.specs.bus_types.event.Event.TheVariants.{Steps}
 use Rattle.stations.specs.StationsView.{stations_of}
 use Rattle.stations.specs.Stations.{stations_after}
 use Rattle.stations.proofs.PlayedTicks.{put-is, put-none}

@@ -1,6 +1,6 @@
 use Rattle.std.proofs.Common.{arith, length, sym, subst}
 use Rattle.adapter.specs.World.{World}
-use Rattle.bus.specs.declared.event.Access.TheVariants.{Stores}
+use Rattle.adapter.specs.bus_types.event.Access.TheVariants.{Stores}
 use Rattle.dma_memory.specs.HostMemory.{LiesIn}
 use Rattle.stations.proofs.Hosts.{access-after, below-machines, has-adapter, shows}
 use Rattle.stations.proofs.stations.Stations.store.Goals as goal

@@ -1,5 +1,5 @@
 use Rattle.std.proofs.Common.{arith}
-use Rattle.bus.specs.declared.event.Access.TheVariants.{Writes}
+use Rattle.adapter.specs.bus_types.event.Access.TheVariants.{Writes}
 use Rattle.stations.proofs.Hosts.{access-after, below-machines, has-adapter}
 use Rattle.stations.proofs.stations.Stations.write.Goals as goal
 

@@ -1,5 +1,0 @@
-use Rattle.adapter.specs.PartsLaws.{parts_have_their_laws}
-use Rattle.adapter.proofs.laws.parts_have_their_laws.Goals as goal
-
-pub returns : goal.returns
-returns c = parts_have_their_laws

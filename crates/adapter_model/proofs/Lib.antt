@@ -1,0 +1,5 @@
+mod Words
+mod DataSteps
+mod StepStates
+mod TakenFrames
+mod SlotsRead

@@ -1,0 +1,15 @@
+use Rattle.std.proofs.Common.{vec_capacity, arith}
+use Rattle.adapter_model.proofs.TakenFrames.{room-left, taken}
+use Rattle.adapter_model.proofs.pending.append_buffered.Goals as goal
+
+pub append_frame-requires-clause-room : goal.append_frame-requires-clause-room
+append_frame-requires-clause-room c =
+    let l = c.loop-index in
+    let room = room-left l.frames.items c.args.frames.now.items c.args.engine.now.buffer l.index (vec_capacity c.args.frames.now)
+    l.invariant.frames (omega (arith, c.loop-index-test.true, c.from-index-end.ensures, c.buffered.ensures.count)) c.requires.room in
+    omega (arith, room, l.invariant.capacity)
+
+pub loop-index-preserved : goal.loop-index-preserved
+loop-index-preserved c =
+    let frames = taken _ _ _ c.append_frame.ensures.frames c.loop-index.invariant.frames c.frame_at.ensures.frame in
+    record { frames = frames; capacity = omega arith }

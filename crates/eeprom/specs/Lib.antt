@@ -1,0 +1,5 @@
+pub mod Eerd
+pub mod EerdHistory
+pub mod EerdLaws
+pub mod Hashed
+pub mod Image

@@ -1,0 +1,9 @@
+pub mod Hashed
+pub mod Mdic
+pub mod MdicHistory
+pub mod MdicLaws
+pub mod Phy
+pub mod PhyHistory
+pub mod PhyLaws
+pub mod PhyPlaces
+pub mod WriteLaws

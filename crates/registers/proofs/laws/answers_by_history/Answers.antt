@@ -1,5 +1,0 @@
-use Rattle.registers.specs.EerdLaws.{by_history}
-use Rattle.registers.proofs.laws.answers_by_history.Goals as goal
-
-pub returns : goal.returns
-returns c = by_history

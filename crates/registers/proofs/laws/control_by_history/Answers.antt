@@ -1,5 +1,0 @@
-use Rattle.registers.specs.PhyLaws.{control_by_history}
-use Rattle.registers.proofs.laws.control_by_history.Goals as goal
-
-pub returns : goal.returns
-returns c = control_by_history
