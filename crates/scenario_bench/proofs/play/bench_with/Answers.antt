@@ -3,7 +3,7 @@ use Rattle.std.proofs.lemmas.Result.{IfOk-weaker, err_from_is_err_and}
 use Rattle.scenario_bench.specs.Benches.{Benches, sinks_of}
 use Rattle.scenario_bench.specs.PlayedEvents.{trace_frames}
 use Rattle.scenario_bench.proofs.Benching.{unmade}
-use Rattle.scenario_bench.proofs.play.bench.Goals as goal
+use Rattle.scenario_bench.proofs.play.bench_with.Goals as goal
 
 pub returns-in_err-play-clause-err : goal.returns-in_err-play-clause-err
 returns-in_err-play-clause-err g c =
