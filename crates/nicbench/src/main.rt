@@ -4,7 +4,7 @@
 ghost use Rattle.command_line.specs.Jobs.{HasBounds};
 
 use command_line::{Job, LineError, line};
-use program_jobs::{Code, Fault, run_drive, run_pass, run_scenario, run_serve, run_show};
+use program_jobs::{Fault, run_drive, run_pass, run_scenario, run_serve, run_show};
 use std::env;
 use std::io::ErrorKind;
 use std::process::ExitCode;
@@ -27,8 +27,8 @@ fn words(rt: &HostRuntime) -> Result<Vec<String>, LineError<'static>> {
 fn refuse(rt: &HostRuntime, error: &LineError<'_>) -> ExitCode {
     match error {
         LineError::Memory => {
-            let _ = eprintln!(rt; "nicbench: {}", Code::E57);
-            ExitCode::from(Code::E57.status())
+            let _ = eprintln!(rt; "nicbench: {}", Fault::Memory);
+            ExitCode::from(Fault::Memory.status())
         }
         LineError::Words(_) | LineError::Value(_) | LineError::NotUnicode => {
             let _ = eprint!(rt; "{error}");
@@ -37,18 +37,20 @@ fn refuse(rt: &HostRuntime, error: &LineError<'_>) -> ExitCode {
     }
 }
 
-/// Reports a fault of a job on standard error. If an input was refused or couldn't be read, also reports what the user
-/// can do. For `run`, also reports that existing files in OUTDIR are unchanged, unless a write failed. Returns the
-/// fault's exit status, even if standard error accepts nothing.
+/// Reports a fault of a job on standard error: its code, and then what explains it, if anything. For `run`, also reports
+/// that existing files in OUTDIR are unchanged, unless a write failed. Each line begins with `nicbench: `. Returns the
+/// fault's exit status, even if there is no memory for the explanation, or standard error accepts nothing.
 fn report(rt: &HostRuntime, job: &Job<'_>, fault: &Fault) -> ExitCode {
     let _ = eprintln!(rt; "nicbench: {fault}");
-    if let Some(advice) = fault.advice(rt.alloc()) {
-        let _ = eprintln!(rt; "nicbench: {advice}");
+    if let Ok(Some(text)) = fault.explanation(rt.alloc()) {
+        for line in text.lines() {
+            let _ = eprintln!(rt; "nicbench: {line}");
+        }
     }
     if matches!(job, Job::Run(_)) && fault.keeps_old_files() {
         let _ = eprintln!(rt; "nicbench: existing files in OUTDIR are unchanged");
     }
-    ExitCode::from(fault.code.status())
+    ExitCode::from(fault.status())
 }
 
 /// Does this job, and reports its fault, if any. Returns the exit status. `words` are the words of the command line
