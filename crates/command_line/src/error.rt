@@ -1,40 +1,51 @@
 //! Why words were refused, with the text for the user.
 ghost use Rattle.std.specs.Prelude.{◌≡◌};
 ghost use Rattle.command_line.specs.Errors.{IsFromClap};
+ghost use Rattle.command_line.specs.Statuses.{line_status};
 ghost use Rattle.command_line.specs.declared.error.LineError.TheVariants.{Memory};
 
 use crate::ValueOption;
 use crate::values::name_of;
 use clap::error::ErrorKind;
 use std::alloc::AllocError;
-use std::fmt;
+use thiserror::Error;
 
 /// Why words were refused. The text of each variant but `Memory` is the text for standard error, with its last line
 /// feed.
-#[derive(Drop)]
+#[derive(Debug, Drop, Error)]
 pub enum LineError<'a> {
     /// clap refused the words, or the words ask for help or the version. The text is clap's.
+    #[error(transparent)]
     Words(clap::Error),
     /// clap accepted the words, but the value of an option doesn't have the option's form, or can't be used with
     /// another option.
+    #[error(transparent)]
     Value(InvalidValue<'a>),
     /// A word isn't UTF-8. Only the caller that takes the words from the system returns this, never
-    /// [`line`](crate::line).
+    /// [`line`](crate::line). The text has the form of clap's texts.
+    #[error("error: invalid UTF-8 was detected in one or more arguments\n\nUsage: nicbench <COMMAND>\n\nFor more information, try '--help'.\n")]
     NotUnicode,
-    /// Memory was refused.
+    /// Out of memory elsewhere than for E45, E47 and E65. Free some, or split IN
+    #[error("E57 Memory")]
     Memory,
 }
 
-/// The text of `NotUnicode`, in the form of clap's texts.
-const NOT_UNICODE: &str = "error: invalid UTF-8 was detected in one or more arguments
+impl LineError<'_> {
+    /// Returns the program's exit status for this error.
+    pub fn status(&self) -> u8
+        ensures { result ≡ line_status self.now }
+    {
+        match self {
+            LineError::Words(_) | LineError::Value(_) | LineError::NotUnicode => 2,
+            LineError::Memory => 4,
+        }
+    }
+}
 
-Usage: nicbench <COMMAND>
-
-For more information, try '--help'.
-";
-
-/// A value that doesn't have its option's form, or can't be used with another option.
-#[derive(Clone, Copy)]
+/// A value that doesn't have its option's form, or can't be used with another option. `form_of` contains the quotation
+/// mark that closes the option and its value.
+#[derive(Clone, Copy, Debug, Error)]
+#[error("error: invalid value '{text}' for '--{} {}\n\nFor more information, try '--help'.\n", name_of(*.option), form_of(*.option))]
 pub struct InvalidValue<'a> {
     /// The option that the value was given for.
     pub option: ValueOption,
@@ -58,30 +69,6 @@ impl<'a> From<AllocError> for LineError<'a> {
 
     fn from(_error: AllocError) -> LineError<'a> {
         LineError::Memory
-    }
-}
-
-impl fmt::Display for LineError<'_> {
-    fn fmt<W: fmt::Write>(&self, f: &mut fmt::Formatter<W>) -> fmt::Result {
-        match self {
-            LineError::Words(error) => error.fmt(f),
-            LineError::Value(value) => value.fmt(f),
-            LineError::NotUnicode => f.write_str(NOT_UNICODE),
-            LineError::Memory => f.write_str("out of memory"),
-        }
-    }
-}
-
-impl fmt::Display for InvalidValue<'_> {
-    fn fmt<W: fmt::Write>(&self, f: &mut fmt::Formatter<W>) -> fmt::Result {
-        let name = name_of(self.option);
-        let form = form_of(self.option);
-        let text = self.text;
-        // `form` contains the quotation mark that closes the option and its value.
-        write!(
-            f,
-            "error: invalid value '{text}' for '--{name} {form}\n\nFor more information, try '--help'.\n"
-        )
     }
 }
 

@@ -121,7 +121,7 @@ pub enum ServeLink {
 
 /// An option whose value can be refused. The option has the name of the variant in lower case: `Address` is
 /// `--address`.
-#[derive(Clone, Copy)]
+#[derive(Clone, Copy, Debug)]
 pub enum ValueOption {
     Address,
     Group,
