@@ -9,9 +9,6 @@ use std::env;
 use std::io::ErrorKind;
 use std::process::ExitCode;
 
-/// The exit status if the words ask for help or the version, or are refused for another reason than memory.
-const USAGE: u8 = 2;
-
 /// Returns the words that the program was called with. Fails with `NotUnicode` if a word isn't Unicode. Each other
 /// error counts as refused memory.
 fn words(rt: &HostRuntime) -> Result<Vec<String>, LineError<'static>> {
@@ -25,28 +22,21 @@ fn words(rt: &HostRuntime) -> Result<Vec<String>, LineError<'static>> {
 /// Reports on standard error why the words were refused: the text of the error, or the code of refused memory. Returns
 /// the exit status, which doesn't depend on whether standard error accepts the report.
 fn refuse(rt: &HostRuntime, error: &LineError<'_>) -> ExitCode {
-    match error {
-        LineError::Memory => {
-            let _ = eprintln!(rt; "nicbench: {}", Fault::Memory);
-            ExitCode::from(Fault::Memory.status())
-        }
+    let _ = match error {
+        LineError::Memory => eprintln!(rt; "nicbench: {error}"),
         LineError::Words(_) | LineError::Value(_) | LineError::NotUnicode => {
-            let _ = eprint!(rt; "{error}");
-            ExitCode::from(USAGE)
+            eprint!(rt; "{error}")
         }
-    }
+    };
+    ExitCode::from(error.status())
 }
 
 /// Reports a fault of a job on standard error: its code, and then what explains it, if anything. For `run`, also reports
 /// that existing files in OUTDIR are unchanged, unless a write failed. Each line begins with `nicbench: `. Returns the
-/// fault's exit status, even if there is no memory for the explanation, or standard error accepts nothing.
+/// fault's exit status, even if standard error accepts nothing.
 fn report(rt: &HostRuntime, job: &Job<'_>, fault: &Fault) -> ExitCode {
     let _ = eprintln!(rt; "nicbench: {fault}");
-    if let Ok(Some(text)) = fault.explanation(rt.alloc()) {
-        for line in text.lines() {
-            let _ = eprintln!(rt; "nicbench: {line}");
-        }
-    }
+    fault.explain(rt);
     if matches!(job, Job::Run(_)) && fault.keeps_old_files() {
         let _ = eprintln!(rt; "nicbench: existing files in OUTDIR are unchanged");
     }

@@ -52,48 +52,54 @@ fn with_path(
     advice.replace(alloc, placeholder, quoted.as_str())
 }
 
-/// Returns the explanation of an error of a file, if there is one.
-fn explain_file(alloc: Global, error: &FileError) -> Result<Option<String>, AllocError> {
-    let text = match error {
-        FileError::Open(path) => with_path(alloc, OPEN_ADVICE, "PATH", path)?,
-        FileError::Input(error, path) => with_path(alloc, input_advice(*error), "IN", path)?,
-        FileError::Schedule(error) => error.to_string(alloc)?,
-        FileError::OtherOptions => String::from_str(alloc, OTHER_OPTIONS)?,
-        FileError::TraceMemory | FileError::Pipe | FileError::Write | FileError::Memory => {
-            return Ok(None);
-        }
-    };
-    Ok(Some(text))
+/// Prints a line of an explanation on standard error. A failed write isn't an error.
+fn print_line(rt: &HostRuntime, line: &str) {
+    let _ = eprintln!(rt; "nicbench: {line}");
 }
 
-/// Returns a line for each of these deviations.
-fn not_met(alloc: Global, deviations: &String) -> Result<String, AllocError> {
-    let mut text = String::new(alloc);
-    for line in deviations.lines() {
-        text.push_str("not met: ")?;
-        text.push_str(line)?;
-        text.push_str("\n")?;
+/// Prints a text with a path in place of the placeholder, unless there is no memory for it.
+fn print_with_path(rt: &HostRuntime, advice: &str, placeholder: &str, path: &String) {
+    if let Ok(text) = with_path(rt.alloc(), advice, placeholder, path) {
+        print_line(rt, text.as_str());
     }
-    Ok(text)
+}
+
+/// Explains an error of a file.
+fn explain_file(rt: &HostRuntime, error: &FileError) {
+    match error {
+        FileError::Open(path) => print_with_path(rt, OPEN_ADVICE, "PATH", path),
+        FileError::Input(error, path) => print_with_path(rt, input_advice(*error), "IN", path),
+        FileError::Schedule(error) => {
+            let _ = eprintln!(rt; "nicbench: {error}");
+        }
+        FileError::OtherOptions => print_line(rt, OTHER_OPTIONS),
+        FileError::TraceMemory | FileError::Pipe | FileError::Write | FileError::Memory => {}
+    }
 }
 
 impl Fault {
-    /// Returns what explains the fault, and what a user can do, if there is more to print than the message: the path of
-    /// a file, the reason why a text isn't a schedule, the counts of a drive, or the deviations that weren't met. The
-    /// text has one or more lines. Fails only if memory is refused.
-    pub fn explanation(&self, alloc: Global) -> Result<Option<String>, AllocError> {
+    /// Prints on standard error what explains the fault, if there is more to print than the message: the path of a
+    /// file, with what a user can do, the reason why a text isn't a schedule, the counts of a drive, or the deviations
+    /// that weren't met. Each line begins with `nicbench: `. Prints no path if there is no memory for the line.
+    pub fn explain(&self, rt: &HostRuntime) {
         match self {
-            Fault::File(error) => explain_file(alloc, error),
-            Fault::SameFile(path) => Ok(Some(with_path(alloc, SAME_FILE_ADVICE, "FILE", path)?)),
-            Fault::Fewer(counts) => Ok(Some(counts.to_string(alloc)?)),
-            Fault::Unmet(deviations) => Ok(Some(not_met(alloc, deviations)?)),
+            Fault::File(error) => explain_file(rt, error),
+            Fault::SameFile(path) => print_with_path(rt, SAME_FILE_ADVICE, "FILE", path),
+            Fault::Fewer(counts) => {
+                let _ = eprintln!(rt; "nicbench: {counts}");
+            }
+            Fault::Unmet(deviations) => {
+                for line in deviations.lines() {
+                    let _ = eprintln!(rt; "nicbench: not met: {line}");
+                }
+            }
             Fault::Scenario(_)
             | Fault::Bench(_)
             | Fault::Write(_)
             | Fault::Serve(_)
             | Fault::Drive(_)
             | Fault::Image
-            | Fault::Memory => Ok(None),
+            | Fault::Memory => {}
         }
     }
 }
