@@ -14,7 +14,7 @@ use thiserror::Error;
 pub enum PlanError {
     /// The name of a host or a wire isn't 1 to 16 of a-z 0-9 _ -. Choose another
     ///
-    /// Or two hosts have the same name.
+    /// Also returned if two hosts have the same name.
     #[error("E40 Name")]
     Name,
     /// A wire has only 1 host, or more than 8. Check the names of wires, or add a host
