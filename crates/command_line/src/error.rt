@@ -10,6 +10,9 @@ use clap::error::ErrorKind;
 use std::alloc::AllocError;
 use thiserror::Error;
 
+/// The last line of the texts that aren't clap's own, as clap writes it.
+const FOR_MORE: &str = "For more information, try '--help'.\n";
+
 /// Why words were refused. The text of each variant but `Memory` is the text for standard error, with its last line
 /// feed.
 #[derive(Debug, Drop, Error)]
@@ -23,7 +26,7 @@ pub enum LineError<'a> {
     Value(InvalidValue<'a>),
     /// A word isn't UTF-8. Only the caller that takes the words from the system returns this, never
     /// [`line`](crate::line). The text has the form of clap's texts.
-    #[error("error: invalid UTF-8 was detected in one or more arguments\n\nUsage: nicbench <COMMAND>\n\nFor more information, try '--help'.\n")]
+    #[error("error: invalid UTF-8 was detected in one or more arguments\n\nUsage: nicbench <COMMAND>\n\n{}", FOR_MORE)]
     NotUnicode,
     /// Memory was refused.
     #[error("E57 Memory")]
@@ -45,7 +48,7 @@ impl LineError<'_> {
 /// A value that doesn't have its option's form, or can't be used with another option. `form_of` contains the quotation
 /// mark that closes the option and its value.
 #[derive(Clone, Copy, Debug, Error)]
-#[error("error: invalid value '{text}' for '--{} {}\n\nFor more information, try '--help'.\n", name_of(*.option), form_of(*.option))]
+#[error("error: invalid value '{text}' for '--{} {}\n\n{}", name_of(*.option), form_of(*.option), FOR_MORE)]
 pub struct InvalidValue<'a> {
     /// The option that the value was given for.
     pub option: ValueOption,
@@ -73,14 +76,14 @@ impl<'a> From<AllocError> for LineError<'a> {
 }
 
 /// Returns the end of an error's first line, after the option's name: the name of the option's value in help, and which
-/// values are valid. For `--image`, the line ends with the reason why the option was refused.
+/// values are valid. For `--image`, the line ends with the reason why the option was refused. clap itself refuses most
+/// numbers of [`Form::Number`](crate::command::Form), but not one with a plus sign, nor an odd number for `--rxa`.
 fn form_of(option: ValueOption) -> &'static str {
     match option {
         ValueOption::Address =>
             "<A>': an address is six pairs of hexadecimal digits joined by colons, such as 02:00:00:00:00:01",
         ValueOption::Group =>
             "<G>': a group is an address whose first byte is odd, such as 01:00:5e:00:00:01",
-        ValueOption::Vlan => "<N>': a VLAN is a decimal number from 0 to 4095, such as 5",
         ValueOption::Memory =>
             "<BYTES>': bytes are a decimal number below 2^64, or a hexadecimal one after 0x, such as 0x100000",
         ValueOption::Registers =>
@@ -89,13 +92,14 @@ fn form_of(option: ValueOption) -> &'static str {
             "<FILE>': the file contains the address, so --address can't be used with it",
         ValueOption::Link =>
             "<N|never>': ticks are a decimal number from 1 to 65535, such as 1, or 'never'",
-        ValueOption::Rxa => "<N>': kilobytes are an even decimal number from 2 to 48, such as 48",
-        ValueOption::Seed => "<N>': a seed is a decimal number below 2^64, such as 7",
-        ValueOption::Missed => "<N>': a count is a decimal number below 2^32, such as 4294967294",
-        ValueOption::Rx | ValueOption::Tx =>
-            "<N>': descriptors are a decimal number below 65536, such as 64",
-        ValueOption::Buffers => "<N>': buffers are a decimal number below 65536, such as 512",
-        ValueOption::Expect => "<N>': frames are a decimal number below 2^64, such as 100",
-        ValueOption::Idle => "<N>': calls are a decimal number below 2^64, such as 1000",
+        ValueOption::Rxa => "<N>': kilobytes are an even number in decimal digits, such as 48",
+        ValueOption::Vlan
+        | ValueOption::Seed
+        | ValueOption::Missed
+        | ValueOption::Rx
+        | ValueOption::Tx
+        | ValueOption::Buffers
+        | ValueOption::Expect
+        | ValueOption::Idle => "<N>': a number has only decimal digits, such as 5",
     }
 }

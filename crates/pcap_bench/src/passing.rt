@@ -19,7 +19,7 @@ use std::alloc::Global;
 /// Writes the frame at the driver's slot through the writer, with this number as time. Then moves the driver to the
 /// next slot ([`offer`](ReceiveLane::offer)). The slot's descriptor must be finished, with a frame of at most 1,518
 /// bytes. If the sink fails, a beginning of the bytes that waited in the writer was written.
-fn write_received<W: Sink>(
+pub(crate) fn write_received<W: Sink>(
     lane: &mut ReceiveLane,
     writer: &mut RecordWriter,
     unit: Unit,
