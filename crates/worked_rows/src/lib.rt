@@ -1,0 +1,12 @@
+//! Worked examples of the whole: registers, descriptors, frames on wires, resets, traces and the lines of the program,
+//! each played by the public calls, with the values that the specification names.
+#![tactic(auto)]
+
+#[cfg(test)]
+mod frames_on_wires;
+#[cfg(test)]
+mod network;
+#[cfg(test)]
+mod said;
+#[cfg(test)]
+mod taken;
