@@ -1,43 +1,10 @@
 //! Frames from host to host: calls, steps and deliveries, and what each answers.
 
 use crate::network::Network;
-use crate::said::{check, played};
-use std::alloc::Global;
-use std::process::Abort;
+use crate::said::check_rows;
 use std::test::Fail;
 
-/// The lines of hosts `a` and `b` on one wire.
-const HOSTS: &str = "host a 02:00:00:00:00:01 w\nhost b 02:00:00:00:00:02 w\n";
-
-/// Returns the lines of hosts. Host `b` has a socket for all frames, except in a `bare` network.
-fn hosts(alloc: Global, name: &str) -> Result<String, Fail> {
-    let lines = match name {
-        // The receive packet buffer of host `b` has 2 KB.
-        "small" => "host a 02:00:00:00:00:01 w\nhost b 02:00:00:00:00:02 w rxa 2\nsocket b all\n",
-        // The transmit ring of host `a` has 4,096 descriptors.
-        "large" =>
-            "host a 02:00:00:00:00:01 w rx 4096 tx 4096 buffers 8192\nhost b 02:00:00:00:00:02 w\n",
-        "three" =>
-            "host a 02:00:00:00:00:01 w\nhost b 02:00:00:00:00:02 w\nhost c 02:00:00:00:00:03 w\n\
-            socket a all\nsocket b all\nsocket c all\n",
-        _ => HOSTS,
-    };
-    let settings = match name {
-        "two" | "full" => "socket b all\n",
-        "group" => "group b 01:00:5e:00:00:01\nsocket b all\n",
-        "vlan" => "vlan b 5\nsocket b all\n",
-        _ => "",
-    };
-    let mut text = format!(in alloc; "{lines}{settings}")?;
-    if name == "full" {
-        for last in 1..33u8 {
-            text.push_str(format!(in alloc; "group b 01:00:5e:00:00:{last:02x}\n")?.as_str())?;
-        }
-    }
-    Ok(text)
-}
-
-/// In each line: the hosts, words whose answers aren't checked, words, and their answers.
+/// Rows of networks.
 const ROWS: &str = "\
 # A frame of 14 bytes is padded to 60 bytes.
 two | | send:0800 bring data:b done:b interrupt:b recv:b | ok took put stored moved done taken 1 60:0800
@@ -93,25 +60,7 @@ full | | join:01:00:5e:00:00:01 join:01:00:5e:00:01:00 join:02:00:00:00:00:02 | 
 two | 3*send:0800 take:a | reset:a | sending 3 holding 0 on after 310
 two | 2*gone:0800 | line:reset_b_/_deliver:b_go_deliver:b counts:1 | sending 0 holding 1 on after 310 stored@0 off@1 missed 0 true rnbc 0 unclaimed 0 log 2";
 
-fn check_row(rt: &impl Abort, alloc: Global, row: &str) -> Result<(), Fail> {
-    let (setup, rest) = row.split_once(" | ").unwrap_or((row, ""));
-    let (before, rest) = rest.split_once("| ").unwrap_or((rest, ""));
-    let (words, wanted) = rest.split_once(" | ").unwrap_or((rest, ""));
-    assert!(rt; !wanted.is_empty(), "{row}");
-    let mut network = Network::new(alloc, hosts(alloc, setup)?)?;
-    played(alloc, &mut network, before)?;
-    check(rt, alloc, &mut network, words, wanted)
-}
-
 #[test]
 fn frames_go_from_host_to_host(rt: HostRuntime) -> Result<(), Fail> {
-    let mut count = 0u32;
-    for row in ROWS.split('\n') {
-        if !row.starts_with("#") {
-            check_row(&rt, rt.alloc(), row)?;
-            count = count.saturating_add(1);
-        }
-    }
-    assert!(rt; count == 38);
-    Ok(())
+    check_rows::<Network>(&rt, rt.alloc(), ROWS, 38)
 }

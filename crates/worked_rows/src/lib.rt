@@ -3,7 +3,17 @@
 #![tactic(auto)]
 
 #[cfg(test)]
+mod adapter_player;
+#[cfg(test)]
+mod adapter_registers;
+#[cfg(test)]
+mod fixtures;
+#[cfg(test)]
 mod frames_on_wires;
+#[cfg(test)]
+mod host;
+#[cfg(test)]
+mod host_over_bus;
 #[cfg(test)]
 mod network;
 #[cfg(test)]

@@ -57,6 +57,37 @@ const LINES: [(&str, &str, &str, usize); 25] = [
     ("line", "", "", 0),
 ];
 
+/// The lines of hosts `a` and `b` on one wire.
+const HOSTS: &str = "host a 02:00:00:00:00:01 w\nhost b 02:00:00:00:00:02 w\n";
+
+/// Returns the lines of hosts. Host `b` has a socket for all frames, except in a `bare` network.
+fn hosts(alloc: Global, name: &str) -> Result<String, Fail> {
+    let lines = match name {
+        // The receive packet buffer of host `b` has 2 KB.
+        "small" => "host a 02:00:00:00:00:01 w\nhost b 02:00:00:00:00:02 w rxa 2\nsocket b all\n",
+        // The transmit ring of host `a` has 4,096 descriptors.
+        "large" =>
+            "host a 02:00:00:00:00:01 w rx 4096 tx 4096 buffers 8192\nhost b 02:00:00:00:00:02 w\n",
+        "three" =>
+            "host a 02:00:00:00:00:01 w\nhost b 02:00:00:00:00:02 w\nhost c 02:00:00:00:00:03 w\n\
+            socket a all\nsocket b all\nsocket c all\n",
+        _ => HOSTS,
+    };
+    let settings = match name {
+        "two" | "full" => "socket b all\n",
+        "group" => "group b 01:00:5e:00:00:01\nsocket b all\n",
+        "vlan" => "vlan b 5\nsocket b all\n",
+        _ => "",
+    };
+    let mut text = format!(in alloc; "{lines}{settings}")?;
+    if name == "full" {
+        for last in 1..33u8 {
+            text.push_str(format!(in alloc; "group b 01:00:5e:00:00:{last:02x}\n")?.as_str())?;
+        }
+    }
+    Ok(text)
+}
+
 /// A network, and the lines of its hosts.
 #[derive(Drop)]
 pub(crate) struct Network {
@@ -104,12 +135,6 @@ fn events_of(alloc: Global, scenario: &Scenario) -> Result<Vec<Event<'_>>, Fail>
 }
 
 impl Network {
-    pub(crate) fn new(alloc: Global, setup: String) -> Result<Network, Fail> {
-        let plan = Scenario::read(alloc, setup.as_str().as_bytes())?.plan;
-        let lan = Lan::new(alloc, &plan)?;
-        Ok(Network { setup, lan })
-    }
-
     /// Runs the events of lines, and returns their replies in one line.
     fn run(&mut self, alloc: Global, lines: &str) -> Result<String, Fail> {
         let text = format!(in alloc; "{}{lines}", self.setup)?;
@@ -152,6 +177,13 @@ impl Network {
 }
 
 impl Player for Network {
+    fn named(alloc: Global, name: &str) -> Result<Network, Fail> {
+        let setup = hosts(alloc, name)?;
+        let plan = Scenario::read(alloc, setup.as_str().as_bytes())?.plan;
+        let lan = Lan::new(alloc, &plan)?;
+        Ok(Network { setup, lan })
+    }
+
     fn word(&mut self, alloc: Global, name: &str, argument: &str) -> Result<String, Fail> {
         let host = argument.parse::<usize>().unwrap_or(0);
         match name {

@@ -9,24 +9,24 @@ use std::process::Abort;
 use std::test::Fail;
 use wire::{Answer, Reply};
 
-/// A network, or a host with its bus, to which words are said.
+/// A network, a host with its bus, or an adapter with its memory.
 pub(crate) trait Player {
+    /// Makes what the first column of a row names.
+    fn named(alloc: Global, name: &str) -> Result<Self, Fail>;
+
     /// Plays a word, and returns what the calls and ticks of this word answered.
     fn word(&mut self, alloc: Global, name: &str, argument: &str) -> Result<String, Fail>;
 }
 
 /// Plays words in order, and returns all answers in one line.
-pub(crate) fn played<P: Player>(alloc: Global, world: &mut P, words: &str) -> Result<String, Fail> {
+fn play<P: Player>(alloc: Global, player: &mut P, words: &str) -> Result<String, Fail> {
     let mut line = String::new(alloc);
-    for token in words.split(' ') {
-        if token.is_empty() {
-            continue;
-        }
+    for token in words.split_whitespace() {
         let (count, word) = token.split_once('*').unwrap_or(("1", token));
         let (name, argument) = word.split_once(':').unwrap_or((word, ""));
         for _ in 0..count.parse::<u16>().unwrap_or(0) {
-            let said = world.word(alloc, name, argument)?;
-            if !line.is_empty() {
+            let said = player.word(alloc, name, argument)?;
+            if !line.is_empty() && !said.is_empty() {
                 line.push_str(" ")?;
             }
             line.push_str(said.as_str())?;
@@ -35,16 +35,37 @@ pub(crate) fn played<P: Player>(alloc: Global, world: &mut P, words: &str) -> Re
     Ok(line)
 }
 
-/// Plays words, and checks all answers.
-pub(crate) fn check<P: Player>(
+/// Plays a row, and checks its answers.
+fn check_row<P: Player + Drop>(rt: &impl Abort, alloc: Global, row: &str) -> Result<P, Fail> {
+    let (name, rest) = row.split_once(" | ").unwrap_or((row, ""));
+    let (before, rest) = rest.split_once("| ").unwrap_or((rest, ""));
+    let (words, wanted) = rest.split_once(" | ").unwrap_or((rest, ""));
+    let mut player = P::named(alloc, name)?;
+    play(alloc, &mut player, before)?;
+    let said = play(alloc, &mut player, words)?;
+    assert!(rt;
+        !wanted.is_empty() && said.as_str() == wanted,
+        "{row}\n{said}"
+    );
+    Ok(player)
+}
+
+/// Plays rows, each with a new player, and checks all answers. A row has four columns: what is made, words whose
+/// answers aren't checked, words, and their answers. A line that begins with `#` is a comment.
+pub(crate) fn check_rows<P: Player + Drop>(
     rt: &impl Abort,
     alloc: Global,
-    world: &mut P,
-    words: &str,
-    wanted: &str,
+    rows: &str,
+    count: u32,
 ) -> Result<(), Fail> {
-    let said = played(alloc, world, words)?;
-    assert!(rt; said.as_str() == wanted, "{words}\n{said}\n{wanted}");
+    let mut checked = 0u32;
+    for row in rows.split('\n') {
+        if !row.starts_with("#") {
+            check_row::<P>(rt, alloc, row)?;
+            checked = checked.saturating_add(1);
+        }
+    }
+    assert!(rt; checked == count, "{checked} rows");
     Ok(())
 }
 
