@@ -15,6 +15,8 @@ mod host;
 #[cfg(test)]
 mod host_over_bus;
 #[cfg(test)]
+mod initialization;
+#[cfg(test)]
 mod lying_bus;
 #[cfg(test)]
 mod network;

@@ -69,7 +69,11 @@ impl Bus for Liar {
                 word << 16 | 0x10
             }
             // R, and the link's bits if the command is a read.
-            MDIC => if self.mdic >> 26 == 1 { 0x1420_1200 } else { 0x1821_0024 },
+            MDIC => if self.mdic >> 26 == 1 {
+                0x1420_1200
+            } else {
+                0x1821_0024
+            },
             ICR => 0x80,
             _ => 0,
         }
@@ -118,13 +122,20 @@ impl Receiver for Lengths {
 }
 
 /// Returns a bus whose descriptors are these: their lengths and status bytes. The last one is repeated.
-fn liar(alloc: Global, always: Option<u32>, descriptors: &[(u16, u8)], repeats: usize) -> Result<Liar, Fail> {
+fn lying(
+    alloc: Global,
+    always: Option<u32>,
+    descriptors: &[(u16, u8)],
+    repeats: usize,
+) -> Result<Liar, Fail> {
     let mut slots = Vec::new(alloc);
     for (length, status) in descriptors {
         let [low, high] = length.to_le_bytes();
         let errors = if *status == 0xFF { 0xFF } else { 0 };
         for _ in 0..repeats {
-            slots.push([0, 0, 0, 0, 0, 0, 0, 0, low, high, 0, 0, *status, errors, 0, 0])?;
+            slots.push([
+                0, 0, 0, 0, 0, 0, 0, 0, low, high, 0, 0, *status, errors, 0, 0,
+            ])?;
         }
     }
     Ok(Liar {
@@ -142,7 +153,11 @@ fn interrupted<B: Bus>(alloc: Global, bus: &mut B) -> Result<(u64, u64, u64), In
     let mut driver = Driver::init(alloc, bus, &config(8, 8, 16))?;
     let mut lengths = Lengths { sum: 0 };
     let handled = driver.interrupt(bus, &mut lengths);
-    let taken = if let Handled::Handled { taken } = handled { taken } else { u64::MAX };
+    let taken = if let Handled::Handled { taken } = handled {
+        taken
+    } else {
+        u64::MAX
+    };
     Ok((taken, driver.bad(), lengths.sum))
 }
 
@@ -161,12 +176,15 @@ const RUNS: [(&[(u16, u8)], usize, (u64, u64, u64)); 8] = [
 #[test]
 fn a_driver_counts_bad_runs_of_descriptors(rt: HostRuntime) -> Result<(), Fail> {
     for (descriptors, repeats, wanted) in RUNS {
-        let mut bus = liar(rt.alloc(), None, descriptors, repeats)?;
+        let mut bus = lying(rt.alloc(), None, descriptors, repeats)?;
         let answer = interrupted(rt.alloc(), &mut bus);
         assert!(rt; answer == Ok(wanted), "{descriptors:?}");
     }
-    for (always, error, reads) in [(0xFFFF_FFFF, InitError::Checksum, 64), (0, InitError::EepromTimeout, 1000)] {
-        let mut bus = liar(rt.alloc(), Some(always), &[], 1)?;
+    for (always, error, reads) in [
+        (0xFFFF_FFFF, InitError::Checksum, 64),
+        (0, InitError::EepromTimeout, 1000),
+    ] {
+        let mut bus = lying(rt.alloc(), Some(always), &[], 1)?;
         assert!(rt; interrupted(rt.alloc(), &mut bus) == Err(error) && bus.eerd_reads == reads);
     }
     Ok(())
