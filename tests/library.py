@@ -63,7 +63,7 @@ class Library(Program):
 # The header and the bindings have the names and numbers of the crates, and the finder has the names of the bindings.
 
 def names(library):
-    offsets = text_of("crates", "adapter", "src", "offsets.rt")
+    offsets = text_of("crates", "adapter_model", "src", "offsets.rt")
     known = {name: int(value, 16) for name, value in re.findall(r"^pub const (\w+): u32 = (0x[0-9A-F]{4});$", offsets,
                                                                 re.M)}
     known["RAH"] = known["RAL"] + REGISTER_BYTES

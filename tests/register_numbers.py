@@ -1,9 +1,9 @@
 """Compares the numbers of registers in texts and in code with the table of the proofs.
 
-`row_of` and `IsInTable` in crates/adapter/specs/Table.antt are the definitions that the contracts of `Adapter::read`
-and `Adapter::write` use. This module reads them by itself, and compares them with
+`row_of` and `IsInTable` in crates/adapter_model/specs/Table.antt are the definitions that the contracts of
+`Adapter::read` and `Adapter::write` use. This module reads them by itself, and compares them with
 
-- the tables of docs/ADAPTER.md and above the offsets in crates/adapter/src/offsets.rt, with the sizes of arrays and the
+- the tables of docs/ADAPTER.md and above the offsets in crates/adapter_model/src/offsets.rt, with the sizes of arrays and the
   numbers in the rules of registers;
 - the constants of the code;
 - the offsets that clients and tests in other languages type by hand.
@@ -17,7 +17,7 @@ import os
 import re
 import sys
 
-ADAPTER = os.path.join(os.path.dirname(os.path.dirname(os.path.abspath(__file__))), "crates", "adapter")
+ADAPTER = os.path.join(os.path.dirname(os.path.dirname(os.path.abspath(__file__))), "crates", "adapter_model")
 RING = {"BAL": "BaseLow", "BAH": "BaseHigh", "LEN": "Length", "H": "Head", "T": "Tail"}
 HEX = r"0x[0-9A-F]+"
 # The files in which offsets are typed: clients don't use the crates, and tests must not take offsets from the tables.
@@ -48,7 +48,7 @@ def offsets():
 def with_numbers(text):
     """A text in which the names of masks and of bits' places are numbers."""
     words = {}
-    for crate, name in [("registers", "Kept"), ("registers", "Places"), ("rx_engine", "Registers")]:
+    for crate, name in [("registers", "Kept"), ("registers", "Places"), ("rx_filter", "Registers")]:
         words.update(re.findall(rf"^(\w+) = ({HEX}|\d+)$", text_of(os.pardir, crate, "specs", name + ".antt"), re.M))
     text = re.sub(rf"alone ({'|'.join(words)})\b", lambda found: f"0x{1 << number(words[found.group(1)]):08X}", text)
     return re.sub(r"(?<![\w.])[a-z]\w*(?![\w.])", lambda found: words.get(found.group(), found.group()), text)
@@ -128,15 +128,15 @@ def bit_places():
     """
     registers = {"ctrl": "Ctrl", "status": "Status", "rctl": "Rctl", "tctl": "Tctl", "": "Cause"}
     others = {
-        "rah_av": ("rx_engine", "address", "ADDRESS_VALID"),
-        "control_reset": ("registers", "phy", "RESET"),
-        "control_enable": ("registers", "phy", "ENABLE"),
-        "control_restart": ("registers", "phy", "RESTART"),
-        "status_complete": ("registers", "phy", "NEGOTIATED"),
-        "status_link": ("registers", "phy", "LINK"),
-        "mdic_r": ("registers", "mdic", "READY"),
-        "mdic_i": ("registers", "mdic", "INTERRUPT"),
-        "mdic_e": ("registers", "mdic", "ERROR"),
+        "rah_av": ("rx_filter", "address", "ADDRESS_VALID"),
+        "control_reset": ("mdic_phy", "phy", "RESET"),
+        "control_enable": ("mdic_phy", "phy", "ENABLE"),
+        "control_restart": ("mdic_phy", "phy", "RESTART"),
+        "status_complete": ("mdic_phy", "phy", "NEGOTIATED"),
+        "status_link": ("mdic_phy", "phy", "LINK"),
+        "mdic_r": ("mdic_phy", "mdic", "READY"),
+        "mdic_i": ("mdic_phy", "mdic", "INTERRUPT"),
+        "mdic_e": ("mdic_phy", "mdic", "ERROR"),
         "mdic_regadd": ("bring_up", "link", "STATUS_REGISTER"),
         "mdic_phyadd": ("bring_up", "link", "PHY_ADDRESS"),
         "mdic_op": ("bring_up", "link", "OP_WRITE"),
@@ -148,7 +148,7 @@ def bit_places():
         "tx_dext": ("descriptors", "flags", "TxCommand::DEXT"),
         "tx_dd": ("descriptors", "flags", "TxStatus::DD"),
     }
-    files = [("registers", "Places"), ("registers", "PhyPlaces"), ("descriptors", "RxStatus"),
+    files = [("registers", "Places"), ("mdic_phy", "PhyPlaces"), ("descriptors", "RxStatus"),
              ("descriptors", "TxFields")]
     for crate, file in files:
         for name, place in re.findall(r"^(\w+) = (\d+)$", text_of(os.pardir, crate, "specs", file + ".antt"), re.M):
@@ -167,9 +167,9 @@ def bit_places():
 def kept_of_mdic():
     """The bits of MDIC that a write keeps: by the specification, all except those that it names; and by the constant.
     """
-    specification = text_of(os.pardir, "registers", "specs", "Mdic.antt")
-    code = text_of(os.pardir, "registers", "src", "mdic.rt")
-    places = dict(re.findall(r"^(\w+) = (\d+)$", text_of(os.pardir, "registers", "specs", "PhyPlaces.antt"), re.M))
+    specification = text_of(os.pardir, "mdic_phy", "specs", "Mdic.antt")
+    code = text_of(os.pardir, "mdic_phy", "src", "mdic.rt")
+    places = dict(re.findall(r"^(\w+) = (\d+)$", text_of(os.pardir, "mdic_phy", "specs", "PhyPlaces.antt"), re.M))
     rule = re.search(r"^kept_bits value = difference value (.*)$", specification, re.M).group(1)
     cleared = sum(1 << number(places[name]) for name in re.findall(r"alone (\w+)", rule))
     return 0xFFFFFFFF - cleared, number(re.search(r"^const KEPT: u32 = (0x[0-9A-F_]+);$", code, re.M).group(1))

@@ -6,7 +6,7 @@ from dataclasses import dataclass
 # The names of rings' registers: a letter by the ring, and the rest by the part, as specs name them.
 RINGS = {"Receive": "R", "Transmit": "T"}
 RING_PARTS = {"BaseLow": "DBAL", "BaseHigh": "DBAH", "Length": "DLEN", "Head": "DH", "Tail": "DT"}
-TABLE, KEPT = "adapter.specs.Table", "registers.specs.Kept"
+TABLE, KEPT = "adapter_model.specs.Table", "registers.specs.Kept"
 
 
 @dataclass
@@ -55,7 +55,7 @@ def arguments(text: str) -> list[str]:
 def written_rules(repository) -> dict[str, str]:
     """The rules that the table in the comment of adapter/src/offsets.rt states, by register."""
     rules = {}
-    for line in repository.modules["adapter.src.offsets"].text.splitlines():
+    for line in repository.modules["adapter_model.src.offsets"].text.splitlines():
         cells = [cell.strip() for cell in line.removeprefix("//! ").strip("|").split("|")]
         if line.startswith("//! | 0x"):
             rule = re.sub(r"^0x[0-9A-F]+(; )?", "", cells[2])
@@ -66,8 +66,8 @@ def written_rules(repository) -> dict[str, str]:
 def ring_registers(repository, way: str, text: str) -> list[Register]:
     """The five registers of a ring."""
     base = number(repository, re.search(r"0x[0-9A-F]+", text).group())
-    kept = {key: value for key, value, _ in clauses(repository, "adapter.specs.Rings", "ring_kept")}
-    distances = clauses(repository, "adapter.specs.Rings", "ring_distance")
+    kept = {key: value for key, value, _ in clauses(repository, "adapter_model.specs.Rings", "ring_kept")}
+    distances = clauses(repository, "adapter_model.specs.Rings", "ring_distance")
     return [Register(RINGS[way] + RING_PARTS[part], base + number(repository, distance),
                      number(repository, kept[part]), "", 0) for part, distance, _ in distances]
 

@@ -15,6 +15,8 @@ PRELUDE = {"Vec": ("std_alloc", ["vec"]), "String": ("std_alloc", ["string"]), "
 STD = ("core", "std_alloc", "std_collections", "std_io")
 # The most imports that are followed from one to the next.
 MOST_STEPS = 8
+# A module of a lower crate that a crate passes on in its specs/Lib.antt, perhaps under another name.
+PASSED = re.compile(r"^pub use Rattle\.([\w.]+?\.(\w+))(?: as (\w+))?$", re.M)
 
 
 def read_layers(root: str) -> list[tuple[str, dict[str, list[str]]]]:
@@ -38,7 +40,7 @@ class Repository:
         self.root, self.kit = root, kit
         self.layers = read_layers(root)
         self.crates = {name: uses for _, crates in self.layers for name, uses in crates.items()}
-        self.modules, self.primitives, self.below_of = {}, {}, {}
+        self.modules, self.primitives, self.below_of, self.passed = {}, {}, {}, {}
         # `counts`: how many names were linked, by how they were linked, and how many weren't, by the reason. `missing`:
         # how often each name wasn't linked. `ambiguous`: how often each field's name wasn't linked.
         self.counts, self.missing, self.ambiguous = Counter(), Counter(), Counter()
@@ -130,8 +132,21 @@ class Repository:
             return os.path.join(self.kit, "rattle", *parts) + ".antt"
         return ""
 
+    def passed_on(self, parts: list[str]) -> list[str]:
+        """A path of specs in the crate that defines it: crates pass on modules of lower crates in specs/Lib.antt."""
+        while len(parts) > 2 and parts[0] in self.crates and parts[1] == "specs":
+            if parts[0] not in self.passed:
+                lib = self.modules.get(f"{parts[0]}.specs.Lib")
+                self.passed[parts[0]] = {name or last: path for path, last, name in PASSED.findall(lib.text if lib else "")}
+            whole = self.passed[parts[0]].get(parts[2])
+            if whole is None:
+                break
+            parts = whole.split(".") + parts[3:]
+        return parts
+
     def module(self, path: str):
         """The module of specs with this path, or None."""
+        path = ".".join(self.passed_on(path.split(".")))
         if path not in self.modules:
             parts = path.split(".")
             file, found = self.file_of(parts), None
@@ -169,7 +184,7 @@ class Repository:
         path = f"{base}.{name}".removeprefix("Rattle.")
         if path.startswith(("Prim.", "text.")):
             return self.primitive(path)
-        parts = path.split(".")
+        parts = self.passed_on(path.split("."))
         if depth > MOST_STEPS:
             return None
         if "declared" in parts:

@@ -12,7 +12,7 @@ STATEMENTS = [
     ("wire", "Lan::run", "Frames between hosts"),
     ("wire", "Lan::drain", "What a host still holds"),
     ("driver", "Driver::interrupt", "One interrupt"),
-    ("adapter", "Adapter::step", "One step of the adapter"),
+    ("adapter_model", "Adapter::step", "One step of the adapter"),
     ("pcap_bench", "pass", "A trace through the receive filter"),
     ("scenario_bench", "bench", "A scenario"),
     ("adapter_server", "serve", "An adapter that is served"),

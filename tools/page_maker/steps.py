@@ -8,7 +8,7 @@ import re
 
 from .registers import arguments, causes, clauses, registers, report_order, wrapped
 
-STEPS, TEXTS = "adapter.specs.Steps", "server_output.specs.Texts"
+STEPS, TEXTS = "adapter_model.specs.Steps", "server_output.specs.Texts"
 NOTHING = "Nothing"
 HEADER = os.path.join("bindings", "c", "nic82540em.h")
 # The tuples of names for the library's numbers, each with the first name of its enumeration in the header

@@ -3,7 +3,8 @@ use Rattle.std.specs.Prelude.{◌++◌}
 use Rattle.std.specs.Hash.{HashWrites, u16, u32}
 use Rattle.eeprom.specs.Hashed.{eerd_writes}
 use Rattle.mdic_phy.specs.Hashed.{mdic_writes, phy_writes}
-use Rattle.rx_engine.specs.Hashed.{filter_writes, receiver_writes}
+use Rattle.rx_engine.specs.Hashed.{receiver_writes}
+use Rattle.rx_filter.specs.Hashed.{filter_writes}
 use Rattle.tx_engine.specs.Hashed.{transmitter_writes}
 use Rattle.registers.specs.PacketBuffer.{allocation_shown}
 use Rattle.adapter_model.specs.State.{AdapterState}

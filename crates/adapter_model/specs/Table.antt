@@ -44,9 +44,9 @@ abbrev pub row_of : Register → Row
 row_of Ctrl = plain 0x0000 control_mask 0
 -- read only: 0x83 while the PHY's link is up and CTRL.SLU is set, else 0
 row_of Status = ruled 0x0008 0
--- reads a word of the EEPROM (crate `registers`)
+-- reads a word of the EEPROM (crate `eeprom`)
 row_of Eerd = ruled 0x0014 0
--- reads and writes registers of the PHY (crate `registers`)
+-- reads and writes registers of the PHY (crate `mdic_phy`)
 row_of Mdic = ruled 0x0020 0
 row_of Vet = plain 0x0038 0x0000FFFF 0x8100
 -- causes 0x2D7; a read clears all causes, and a write clears each cause whose bit is written as 1

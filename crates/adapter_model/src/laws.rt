@@ -50,9 +50,9 @@ pub fn plain_by_history()
     ensures { PlainByHistory }
 {}
 
-/// What EERD, MDIC and the PHY contain after any accesses, steps and arrivals since power-on. The laws of the crate
-/// `registers` define this by the writes and ticks among these events. For EERD, only the events after the last reset
-/// by CTRL.RST count. For MDIC, the reset counts as a write of 0, which contains no command.
+/// What EERD, MDIC and the PHY contain after any accesses, steps and arrivals since power-on. The laws of the crates
+/// `eeprom` and `mdic_phy` define this by the writes and ticks among these events. For EERD, only the events after the
+/// last reset by CTRL.RST count. For MDIC, the reset counts as a write of 0, which contains no command.
 pub fn parts_have_their_laws()
     ensures { PartsHaveTheirLaws }
 {}

@@ -7,8 +7,8 @@
 //! |---|---|---|---|
 //! | 0x0000 | CTRL | 0x40000061; RST, bit 26, resets and reads 0 | 0 |
 //! | 0x0008 | STATUS | read only: 0x83 while the PHY's link is up and CTRL.SLU is set, else 0 | 0 |
-//! | 0x0014 | EERD | reads a word of the EEPROM (crate `registers`) | 0 |
-//! | 0x0020 | MDIC | reads and writes registers of the PHY (crate `registers`) | 0 |
+//! | 0x0014 | EERD | reads a word of the EEPROM (crate `eeprom`) | 0 |
+//! | 0x0020 | MDIC | reads and writes registers of the PHY (crate `mdic_phy`) | 0 |
 //! | 0x0038 | VET | 0x0000FFFF | 0x8100 |
 //! | 0x00C0 | ICR | causes 0x2D7; a read clears all causes, a write clears each cause whose bit is written as 1 | 0 |
 //! | 0x00C8 | ICS | a write records causes; reads 0 | 0 |

@@ -13,3 +13,4 @@ pub mod RestingRings
 pub mod RingRegisters
 pub mod SettingSteps
 pub mod WrittenRegisters
+pub mod ErrorTexts

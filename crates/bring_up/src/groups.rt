@@ -11,6 +11,7 @@ ghost use Rattle.bring_up.specs.WrittenRegisters.{register_limit};
 ghost use Rattle.adapter.specs.bus_types.event.Access.TheVariants.{Writes};
 ghost use Rattle.adapter.specs.Calls.{IsReadyOver, Ran, at, only};
 ghost use Rattle.adapter.specs.DriverState.{DriverState};
+ghost use Rattle.bring_up.specs.ErrorTexts.{group_error_text};
 ghost use Rattle.bring_up.specs.Groups.{AreNamedOnce, ChangesGroups, HasNumber, RewritesWord};
 ghost use Rattle.bring_up.specs.declared.groups.GroupError.TheVariants.{GroupsFull, Joined, NotGroup, NotJoined};
 
@@ -25,19 +26,30 @@ use thiserror::Error;
 
 /// The reason why a group isn't joined or left.
 #[derive(Clone, Copy, Debug, PartialEq, Eq, Error)]
+#[error("{}", self.text())]
 pub enum GroupError {
     /// The low bit of the address's first byte is clear, so the address isn't that of a group.
-    #[error("E23 NotGroup")]
     NotGroup,
     /// 32 groups are joined.
-    #[error("E24 GroupsFull")]
     GroupsFull,
     /// The group isn't joined.
-    #[error("E25 NotJoined")]
     NotJoined,
     /// The group is joined already.
-    #[error("E26 Joined")]
     Joined,
+}
+
+impl GroupError {
+    /// Returns the code and the name of the error, which are also its message.
+    pub fn text(self) -> &'static str
+        ensures { result.now ≡ group_error_text self }
+    {
+        match self {
+            GroupError::NotGroup => "E23 NotGroup",
+            GroupError::GroupsFull => "E24 GroupsFull",
+            GroupError::NotJoined => "E25 NotJoined",
+            GroupError::Joined => "E26 Joined",
+        }
+    }
 }
 
 /// The groups that a host has joined, each once, in the order in which they were joined.

@@ -9,3 +9,4 @@ pub mod Growth
 pub mod InsideSetup
 pub mod Initialisation
 pub mod Resetting
+pub mod ErrorTexts

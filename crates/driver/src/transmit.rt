@@ -9,6 +9,7 @@ ghost use Rattle.descriptors.specs.TxFields.{tx_dd};
 ghost use Rattle.adapter.specs.Keeping.{Keeps};
 ghost use Rattle.adapter.specs.Calls.{Ran, WhereUp, at, whole_descriptor};
 ghost use Rattle.adapter.specs.DriverState.{transmit_slot, transmit_tail};
+ghost use Rattle.driver.specs.ErrorTexts.{send_error_text};
 ghost use Rattle.driver.specs.SendSteps.{FreesOldest, HasWrongLength, LooksBack, Transmits};
 ghost use Rattle.driver.specs.SendSteps.{sent_now, sent_status_offset, with_transmit_slots};
 
@@ -24,18 +25,29 @@ use thiserror::Error;
 
 /// The reason why a frame isn't sent.
 #[derive(Clone, Copy, Debug, PartialEq, Eq, Error)]
+#[error("{}", self.text())]
 pub enum SendError {
     /// The frame has fewer than 14 bytes.
-    #[error("E20 TooShort")]
     TooShort,
     /// The frame has more than 1,518 bytes.
-    #[error("E21 TooLong")]
     TooLong,
     /// All slots except one are outstanding, after the call has freed the oldest slots whose descriptors have DD. If
     /// the bus obeys the law, and the driver is ready with its transmit side set up, no outstanding slot is written
     /// back.
-    #[error("E22 RingFull")]
     RingFull,
+}
+
+impl SendError {
+    /// Returns the code and the name of the error, which are also its message.
+    pub fn text(self) -> &'static str
+        ensures { result.now ≡ send_error_text self }
+    {
+        match self {
+            SendError::TooShort => "E20 TooShort",
+            SendError::TooLong => "E21 TooLong",
+            SendError::RingFull => "E22 RingFull",
+        }
+    }
 }
 
 /// Returns the address of a transmit slot's descriptor. The ring must have this slot. Then the descriptor is inside the

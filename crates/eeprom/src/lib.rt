@@ -1,4 +1,6 @@
-//! The EEPROM of the Intel 82540EM, and EERD.
+//! The EEPROM of the Intel 82540EM, and EERD, the register through which a driver reads its words.
+//!
+//! Section numbers are those of Intel's "PCI/PCI-X Family of Gigabit Ethernet Controllers Software Developer's Manual".
 #![tactic(auto)]
 
 mod eerd;

@@ -1,4 +1,7 @@
 //! MDIC and the PHY of the Intel 82540EM, as far as they concern the link.
+//!
+//! Section numbers are those of Intel's "PCI/PCI-X Family of Gigabit Ethernet Controllers Software Developer's Manual".
+//! The PHY's registers are those of IEEE 802.3, clause 22.
 #![tactic(auto)]
 
 mod hashing;

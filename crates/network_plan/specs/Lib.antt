@@ -1,3 +1,4 @@
 pub mod Plans
 pub mod EventCalls
 pub mod Answers
+pub mod Statuses

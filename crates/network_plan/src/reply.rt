@@ -84,8 +84,10 @@ pub struct Reply {
     pub outcomes: Outcomes,
 }
 
-/// A run ended before an event: the observer refused to make room, or memory for the frames that a reset drops couldn't
-/// be allocated. The first `done` events were run and reported, and nothing else changed in the network.
+/// Out of memory during the run. Free some, or split the scenario
+///
+/// The run ended before an event: the observer refused to make room, or memory for the frames that a reset drops
+/// couldn't be allocated. The first `done` events were run and reported, and nothing else changed in the network.
 #[derive(Clone, Copy, Debug, PartialEq, Eq, Error)]
 #[error("E47 Memory")]
 pub struct Stopped {

@@ -3,7 +3,7 @@
 #![tactic(auto)]
 
 #[cfg(test)]
-mod adapter_readme;
+mod adapter_model_readme;
 #[cfg(test)]
 mod bring_up_readme;
 #[cfg(test)]
@@ -17,7 +17,11 @@ mod drains;
 #[cfg(test)]
 mod driver_readme;
 #[cfg(test)]
+mod eeprom_readme;
+#[cfg(test)]
 mod logs;
+#[cfg(test)]
+mod mdic_phy_readme;
 #[cfg(test)]
 mod memory;
 #[cfg(test)]
@@ -34,6 +38,8 @@ mod refused_memory;
 mod registers_readme;
 #[cfg(test)]
 mod rx_engine_readme;
+#[cfg(test)]
+mod rx_filter_readme;
 #[cfg(test)]
 mod solo_bus_readme;
 #[cfg(test)]

@@ -1,7 +1,6 @@
 //! The code of the README of `registers`, word for word.
 
 use bitflags::Flags;
-use mdic_phy::{Link, Mdic, Phy};
 use registers::{Cause, Causes, PciFunction, PortWidth};
 
 #[test]
@@ -20,15 +19,4 @@ fn the_code_of_the_readme_of_registers_where_ports_are_accessed(rt: HostRuntime)
     function.write_port(0xCF8, PortWidth::Long, 0x8000_2010); // base address register 0
     function.write_port(0xCFE, PortWidth::Word, 0xE000); // the high half
     assert_eq!(rt; function.registers(), Some(0xE000_0000));
-}
-
-#[test]
-fn the_code_of_the_readme_of_registers_where_a_link_comes_up(rt: HostRuntime) {
-    let mut phy = Phy::new(Link::After(1));
-    let mut mdic = Mdic::new();
-    mdic.write(0x0420_1200); // OP 01, PHYADD 1, REGADD 0: bits 12 and 9 start the negotiation
-    mdic.tick(&mut phy);
-    assert_eq!(rt; mdic.read(), 0x1420_1200); // R: the command has ended
-    mdic.tick(&mut phy);
-    assert!(rt; phy.link_is_up());
 }

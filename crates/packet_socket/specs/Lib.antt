@@ -11,3 +11,4 @@ pub mod SortingLaws
 pub mod InsideSockets
 pub mod InsideHost
 pub mod HostResets
+pub mod ErrorTexts

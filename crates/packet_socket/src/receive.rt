@@ -3,6 +3,7 @@
 ghost use Rattle.std.specs.Prelude.{◌≡◌, ◌↔◌, ◌≤◌, ◌<◌, [], Err, IfErr, IfOk, length};
 ghost use Rattle.dma_memory.specs.Layout.{size_of};
 ghost use Rattle.adapter.specs.Keeping.{Keeps};
+ghost use Rattle.packet_socket.specs.ErrorTexts.{recv_error_text};
 ghost use Rattle.packet_socket.specs.HostActs.{CallsOver};
 ghost use Rattle.packet_socket.specs.HostCalls.{Returns, host_at};
 ghost use Rattle.packet_socket.specs.HostEffects.{RecvEffect, frame_answer, given_by};
@@ -15,13 +16,24 @@ use thiserror::Error;
 
 /// The reason why no frame is returned.
 #[derive(Clone, Copy, Debug, PartialEq, Eq, Error)]
+#[error("{}", self.text())]
 pub enum RecvError {
     /// The socket's queue is empty.
-    #[error("E30 Empty")]
     Empty,
     /// There is no such socket.
-    #[error("E31 NoSocket")]
     NoSocket,
+}
+
+impl RecvError {
+    /// Returns the code and the name of the error, which are also its message.
+    pub fn text(self) -> &'static str
+        ensures { result.now ≡ recv_error_text self }
+    {
+        match self {
+            RecvError::Empty => "E30 Empty",
+            RecvError::NoSocket => "E31 NoSocket",
+        }
+    }
 }
 
 impl Host {

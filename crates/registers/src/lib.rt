@@ -1,10 +1,9 @@
-//! Registers of the Intel 82540EM: CTRL, STATUS, RCTL, TCTL, PBA, interrupt causes, statistics counters, the PCI
-//! configuration space with its I/O ports, and the EEPROM and the PHY, which a driver accesses through EERD and MDIC.
+//! Registers of the Intel 82540EM: CTRL, STATUS, RCTL, TCTL, PBA, interrupt causes, statistics counters, and the PCI
+//! configuration space with its I/O ports.
 //!
 //! Section numbers are those of Intel's "PCI/PCI-X Family of Gigabit Ethernet Controllers Software Developer's Manual".
 //! The configuration space is also that of "PCI Local Bus Specification", revision 2.2. A driver or firmware accesses
-//! it through the I/O ports CONFIG_ADDRESS and CONFIG_DATA. The PHY's registers are those of IEEE 802.3, clause 22. The
-//! PHY is modelled as far as it concerns the link.
+//! it through the I/O ports CONFIG_ADDRESS and CONFIG_DATA.
 #![tactic(auto)]
 
 mod bits;

@@ -5,16 +5,15 @@ use Rattle.adapter.specs.model_types.outcome.Outcome.TheVariants as outcome
 use Rattle.adapter.specs.model_types.step.StepKind.{StepKind}
 use Rattle.adapter.specs.model_types.step.StepKind.TheVariants as step
 use Rattle.driver.specs.declared.interrupt.Handled.TheVariants as handled
+use Rattle.driver.specs.ErrorTexts.{send_error_text}
 use Rattle.driver.specs.declared.transmit.SendError.{SendError}
-use Rattle.driver.specs.declared.transmit.SendError.TheVariants as send
+use Rattle.bring_up.specs.ErrorTexts.{group_error_text}
 use Rattle.bring_up.specs.declared.groups.GroupError.{GroupError}
-use Rattle.bring_up.specs.declared.groups.GroupError.TheVariants as group
 use Rattle.network_plan.specs.Answers.{FrameAnswer}
 use Rattle.network_plan.specs.declared.event.Event.{Event}
 use Rattle.network_plan.specs.declared.event.Event.TheVariants as event
 use Rattle.network_plan.specs.declared.reply.Answer.TheVariants as answer
-use Rattle.packet_socket.specs.declared.receive.RecvError.{RecvError}
-use Rattle.packet_socket.specs.declared.receive.RecvError.TheVariants as recv
+use Rattle.packet_socket.specs.ErrorTexts.{recv_error_text}
 use Rattle.rx_engine.specs.declared.arrival.Fate.{Fate}
 use Rattle.rx_engine.specs.declared.arrival.Fate.TheVariants as fate
 use Rattle.stations.specs.declared.tick.Tick.{Tick}
@@ -93,35 +92,25 @@ event_text names (event.Join host group ticks) = codes " join " ++ name_at names
 event_text names (event.Leave host group ticks) = codes " leave " ++ name_at names host
 event_text names (event.Tick tick) = codes " tick"
 
--- a blank and the words for the result of a send: `ok`, or the error's code and name
+-- the words for the result of a send: `ok`, or the error's code and name
 abbrev pub sent_word : Result (Unit {0}) SendError → List ℕ
-sent_word (Ok u) = codes " ok"
-sent_word (Err send.TooShort) = codes " E20 TooShort"
-sent_word (Err send.TooLong) = codes " E21 TooLong"
-sent_word (Err send.RingFull) = codes " E22 RingFull"
+sent_word (Ok u) = codes "ok"
+sent_word (Err error) = send_error_text error
 
--- a blank, and the code and name of the error of a recv that returned no frame
-abbrev pub recv_word : RecvError → List ℕ
-recv_word recv.Empty = codes " E30 Empty"
-recv_word recv.NoSocket = codes " E31 NoSocket"
-
--- a blank and the words for the result of a join or a leave: `ok`, or the error's code and name
+-- the words for the result of a join or a leave: `ok`, or the error's code and name
 abbrev pub group_word : Result (Unit {0}) GroupError → List ℕ
-group_word (Ok u) = codes " ok"
-group_word (Err group.NotGroup) = codes " E23 NotGroup"
-group_word (Err group.GroupsFull) = codes " E24 GroupsFull"
-group_word (Err group.NotJoined) = codes " E25 NotJoined"
-group_word (Err group.Joined) = codes " E26 Joined"
+group_word (Ok u) = codes "ok"
+group_word (Err error) = group_error_text error
 
 -- a blank and the words for an answer, without numbers; nothing for `Ticked`, the answer to an event that is a tick
 abbrev pub answer_word : FrameAnswer → List ℕ
-answer_word (answer.Sent sent) = sent_word sent
+answer_word (answer.Sent sent) = codes " " ++ sent_word sent
 answer_word (answer.Received (Ok frame)) = codes " ok"
-answer_word (answer.Received (Err error)) = recv_word error
+answer_word (answer.Received (Err error)) = codes " " ++ recv_error_text error
 answer_word (answer.Interrupted handled.NotMine) = codes " notmine"
 answer_word (answer.Interrupted (handled.Handled taken)) = codes " handled"
-answer_word (answer.Joined joined) = group_word joined
-answer_word (answer.Left left) = group_word left
+answer_word (answer.Joined joined) = codes " " ++ group_word joined
+answer_word (answer.Left left) = codes " " ++ group_word left
 answer_word (answer.Reset sending holding on_after) = codes " givenup"
 answer_word answer.Ticked = []
 answer_word answer.NoHost = codes " nohost"

@@ -1,14 +1,13 @@
 //! The lines of events and drains, and their parts.
-ghost use Rattle.std.specs.Prelude.{◌≡◌, ◌++◌, ℕ, List, OnOk, decimal, map, string_bytes};
+ghost use Rattle.std.specs.Prelude.{◌≡◌, ◌++◌, ℕ, List, OnOk, codes, decimal, map, string_bytes};
 ghost use Rattle.adapter.specs.Outcomes.{with_frame};
 ghost use Rattle.network_plan.specs.Answers.{answer_with};
 ghost use Rattle.run_record.specs.EventLines as lines;
 ghost use Rattle.run_record.specs.EventTexts as texts;
 
 use adapter::{Fate, Outcome, StepKind};
-use driver::{GroupError, Handled, SendError};
+use driver::{GroupError, Handled};
 use itoa::Buffer;
-use packet_socket::RecvError;
 use std::alloc::AllocError;
 use wire::{Answer, Event, Tick};
 
@@ -159,39 +158,42 @@ pub(crate) fn push_event(
     }
 }
 
-/// Returns a blank and the words for the result of a join or a leave.
-fn group_word(changed: Result<(), GroupError>) -> &'static [u8]
+/// Returns the words for the result of a join or a leave.
+fn group_word(changed: Result<(), GroupError>) -> &'static str
     ensures { result.now ≡ texts.group_word changed }
 {
     match changed {
-        Ok(()) => b" ok",
-        Err(GroupError::NotGroup) => b" E23 NotGroup",
-        Err(GroupError::GroupsFull) => b" E24 GroupsFull",
-        Err(GroupError::NotJoined) => b" E25 NotJoined",
-        Err(GroupError::Joined) => b" E26 Joined",
+        Ok(()) => "ok",
+        Err(error) => error.text(),
     }
 }
 
-/// Returns a blank and the words for an answer, without numbers; nothing for `Ticked`, the answer to an event that is a
-/// tick.
-fn answer_word(answer: &Answer<()>) -> &'static [u8]
-    ensures { (frame : List ℕ) → result.now ≡ texts.answer_word (answer_with frame answer.now) }
+/// Appends a blank and these words.
+fn push_words(text: &mut Vec<u8>, words: &str) -> Result<(), AllocError>
+    ensures { OnOk result (text.new.items ≡ text.old.items ++ (codes " " ++ words.now)) }
 {
-    match answer {
-        Answer::Sent(Ok(())) => b" ok",
-        Answer::Sent(Err(SendError::TooShort)) => b" E20 TooShort",
-        Answer::Sent(Err(SendError::TooLong)) => b" E21 TooLong",
-        Answer::Sent(Err(SendError::RingFull)) => b" E22 RingFull",
-        Answer::Received(Ok(())) => b" ok",
-        Answer::Received(Err(RecvError::Empty)) => b" E30 Empty",
-        Answer::Received(Err(RecvError::NoSocket)) => b" E31 NoSocket",
-        Answer::Interrupted(Handled::NotMine) => b" notmine",
-        Answer::Interrupted(Handled::Handled { .. }) => b" handled",
+    text.extend_from_slice(b" ")?;
+    text.extend_from_slice(words.as_bytes())
+}
+
+/// Appends a blank and the words for an answer, without numbers. Appends nothing for `Ticked`, the answer to an event
+/// that is a tick.
+fn push_answer_word(text: &mut Vec<u8>, answer: &Answer<()>) -> Result<(), AllocError>
+    ensures { (frame : List ℕ) → OnOk result
+        (text.new.items ≡ text.old.items ++ texts.answer_word (answer_with frame answer.now)) }
+{
+    let words = match answer {
+        Answer::Sent(Ok(())) | Answer::Received(Ok(())) => "ok",
+        Answer::Sent(Err(error)) => error.text(),
+        Answer::Received(Err(error)) => error.text(),
+        Answer::Interrupted(Handled::NotMine) => "notmine",
+        Answer::Interrupted(Handled::Handled { .. }) => "handled",
         Answer::Joined(changed) | Answer::Left(changed) => group_word(*changed),
-        Answer::Reset { .. } => b" givenup",
-        Answer::Ticked => b"",
-        Answer::NoHost => b" nohost",
-    }
+        Answer::Reset { .. } => "givenup",
+        Answer::Ticked => return Ok(()),
+        Answer::NoHost => "nohost",
+    };
+    push_words(text, words)
 }
 
 /// Appends the answer to an event, and its numbers. For a recv, this is the size in bytes of `frame`, which the socket
@@ -207,7 +209,7 @@ pub(crate) fn push_answer(
     ensures { OnOk result
         (text.new.items ≡ text.old.items ++ texts.answer_text (answer_with frame.now answer.now)) }
 {
-    text.extend_from_slice(answer_word(answer))?;
+    push_answer_word(text, answer)?;
     match answer {
         Answer::Received(Ok(())) => push_number(text, b" ", frame.len() as u64),
         Answer::Interrupted(Handled::Handled { taken }) => push_number(text, b" ", *taken),

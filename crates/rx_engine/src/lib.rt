@@ -4,9 +4,6 @@
 //! buffer that the descriptor at the head of the receive ring points to. A done step then writes back this descriptor,
 //! if the descriptor is inside memory. Section numbers are those of Intel's "PCI/PCI-X Family of Gigabit Ethernet
 //! Controllers Software Developer's Manual".
-//!
-//! The crate also contains the receive filter: receive addresses, the multicast table, and VLANs. The filter allocates
-//! no memory.
 #![tactic(auto)]
 
 mod arrival;

@@ -9,11 +9,10 @@ pub returns-in-Interrupted-Handled : goal.returns-in-Interrupted-Handled
 returns-in-Interrupted-Handled c =
     let before = c.args.text.now.items in
     let one = answer_with c.args.frame.now c.args.answer.now in
-    let worded = c.extend_from_slice.new.self.items in
+    let worded = c.push_answer_word.new.text.items in
     let all = c.push_number-in-Interrupted-Handled.new.text.items in
     let size = numbered (codes " ") c.in-Interrupted-Handled.taken in
-    let worded_is = c.in_ok-extend_from_slice.ensures.items
-    ∙ ap (λ (list : List ℕ). before ++ list) (c.answer_word.ensures c.args.frame.now) in
+    let worded_is = c.in_ok-push_answer_word.ensures c.args.frame.now in
     let size_is : answer_numbers one ≡ size = search rules in
     on_ok_weaker c.push_number-in-Interrupted-Handled.result
     (λ (is : all ≡ worded ++ size). also before (answer_word one) (answer_numbers one) worded all worded_is
@@ -24,11 +23,10 @@ pub returns-in-Received-Ok : goal.returns-in-Received-Ok
 returns-in-Received-Ok c =
     let before = c.args.text.now.items in
     let one = answer_with c.args.frame.now c.args.answer.now in
-    let worded = c.extend_from_slice.new.self.items in
+    let worded = c.push_answer_word.new.text.items in
     let all = c.push_number.new.text.items in
     let size = numbered (codes " ") (length c.args.frame.now) in
-    let worded_is = c.in_ok-extend_from_slice.ensures.items
-    ∙ ap (λ (list : List ℕ). before ++ list) (c.answer_word.ensures c.args.frame.now) in
+    let worded_is = c.in_ok-push_answer_word.ensures c.args.frame.now in
     let size_is : answer_numbers one ≡ size = search rules in
     on_ok_weaker c.push_number.result
     (λ (is : all ≡ worded ++ size). also before (answer_word one) (answer_numbers one) worded all worded_is

@@ -1,4 +1,4 @@
-//! The code of the README of `adapter`, word for word.
+//! The code of the README of `adapter_model`, word for word.
 
 use adapter::offsets::{GPRC, ICR, RCTL, RDLEN, RDT};
 use adapter::{Adapter, Fate, Outcome, StepKind};
@@ -10,7 +10,7 @@ use registers::{Cause, Rctl};
 use std::test::Fail;
 
 #[test]
-fn the_code_of_the_readme_of_adapter(rt: HostRuntime) -> Result<(), Fail> {
+fn the_code_of_the_readme_of_adapter_model(rt: HostRuntime) -> Result<(), Fail> {
     // A ring of eight descriptors at address 0. The adapter owns the first, which points to a buffer at 0x800.
     let mut memory = HostMemory::new(rt.alloc(), 4_096)?;
     memory.store(0, &0x800u64.to_le_bytes())?;
