@@ -1,7 +1,7 @@
 //! A host over a bus with one adapter, which plays words.
 
 use crate::fixtures::{NEEDED, config, lively_bus};
-use crate::said::{Player, fate_word, frame_word, handled_word, outcome_word};
+use crate::said::{Player, fate_word, frame_word, handled_word, hex, outcome_word};
 use adapter::offsets::{MPC, RDH, RDT, RNBC, TDH, TDT};
 use adapter::{Bus, HonestBus, SoloBus, SoloTick, StepKind};
 use arrayvec::ArrayVec;
@@ -88,11 +88,7 @@ fn call<B: Bus>(
         "descriptor" => {
             let mut bytes = [0; 16];
             bus.load(0, &mut bytes);
-            let mut text = String::new(alloc);
-            for byte in &bytes[8..] {
-                text.push_str(format!(in alloc; "{byte:02x}")?.as_str())?;
-            }
-            text
+            hex(alloc, &bytes[8..])?
         }
         _ => return Ok(None),
     };

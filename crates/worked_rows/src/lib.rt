@@ -24,3 +24,5 @@ mod network;
 mod said;
 #[cfg(test)]
 mod taken;
+#[cfg(test)]
+mod traces;

@@ -153,3 +153,12 @@ pub(crate) fn reply_words(alloc: Global, reply: &Reply) -> Result<String, Fail> 
     }
     Ok(line)
 }
+
+/// Returns bytes as hexadecimal digits.
+pub(crate) fn hex(alloc: Global, bytes: &[u8]) -> Result<String, Fail> {
+    let mut text = String::new(alloc);
+    for byte in bytes {
+        text.push_str(format!(in alloc; "{byte:02x}")?.as_str())?;
+    }
+    Ok(text)
+}
