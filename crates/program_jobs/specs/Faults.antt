@@ -6,8 +6,6 @@ use Rattle.drive.specs.declared.drive_error.DriveError.{DriveError}
 use Rattle.drive.specs.declared.drive_error.DriveError.TheVariants as drive
 use Rattle.network_plan.specs.declared.plan_error.PlanError.{PlanError}
 use Rattle.network_plan.specs.declared.plan_error.PlanError.TheVariants as plan
-use Rattle.pcap_bench.specs.declared.pass_error.PassError.{PassError}
-use Rattle.pcap_bench.specs.declared.pass_error.PassError.TheVariants as passing
 use Rattle.pcap_trace.specs.declared.fault.ReadError.{ReadError}
 use Rattle.pcap_trace.specs.declared.fault.ReadError.TheVariants as input
 use Rattle.program_files.specs.declared.file_error.FileError.{FileError}
@@ -74,10 +72,6 @@ status_of_file (files.Schedule error) = status_of_schedule error
 status_of_file files.OtherOptions = 1
 status_of_file files.Write = 3
 status_of_file files.Memory = 4
-
-abbrev pub status_of_pass : PassError → ℕ
-status_of_pass passing.Memory = 4
-status_of_pass passing.Write = 3
 
 abbrev pub status_of_refusal : Refusal → ℕ
 status_of_refusal (refusals.Line line fault) = 1

@@ -7,7 +7,7 @@ use crate::codes::Code;
 use adapter_server::ServeError;
 use drive::{BusFault, DriveError};
 use driver::InitError;
-use pcap_bench::{PassError, ReadError, WriteError};
+use pcap_bench::{ReadError, WriteError};
 use program_files::FileError;
 use scenario::{Fault as LineFault, Refusal};
 use scenario_bench::BenchError;
@@ -184,17 +184,6 @@ impl From<WriteError> for Fault {
 
     fn from(_error: WriteError) -> Fault {
         Fault::of(Code::E67)
-    }
-}
-
-impl From<PassError> for Fault {
-    ghost from_gives = { λ e. spec.HasStatusAndDetail (spec.status_of_pass e) spec.no_detail };
-
-    fn from(error: PassError) -> Fault {
-        match error {
-            PassError::Memory => Fault::of(Code::E57),
-            PassError::Write => Fault::of(Code::E67),
-        }
     }
 }
 
