@@ -20,20 +20,23 @@ fn push_number(bytes: &mut Vec<u8>, number: u32, big: bool) -> Result<(), Fail> 
     Ok(())
 }
 
-/// Returns a trace: a file header, and for each record its captured length and its original length, and its bytes.
-fn trace_of(alloc: Global, magic: u32, big: bool, records: &[(u32, u32)]) -> Result<Vec<u8>, Fail> {
+/// Returns a trace: a file header, and for each packet its captured bytes and its original length.
+pub(crate) fn trace_of(
+    alloc: Global,
+    magic: u32,
+    big: bool,
+    packets: &[(&[u8], u32)],
+) -> Result<Vec<u8>, Fail> {
     let mut bytes = Vec::new(alloc);
     let version = if big { 0x0002_0004 } else { 0x0004_0002 };
     for number in [magic, version, 0, 0, 0xFFFF, 1] {
         push_number(&mut bytes, number, big)?;
     }
-    for (captured, original) in records {
-        for number in [0, 0, *captured, *original] {
+    for (captured, original) in packets {
+        for number in [0, 0, captured.len() as u32, *original] {
             push_number(&mut bytes, number, big)?;
         }
-        for _ in 0..*captured {
-            bytes.push(0xFF)?;
-        }
+        bytes.extend_from_slice(captured)?;
     }
     Ok(bytes)
 }
@@ -65,11 +68,16 @@ fn traces_are_read_in_each_order_and_cut_anywhere(rt: HostRuntime) -> Result<(),
         (0xA1B2_3C4D, true),
         (0xA1B2_3C4D, false),
     ] {
-        let mut bytes = trace_of(alloc, magic, big, &[(14, 14), (14, 100)])?;
+        let mut bytes = trace_of(alloc, magic, big, &[(&[0xFF; 14], 14), (&[0xFF; 14], 100)])?;
         bytes.extend_from_slice(&[0; 7])?;
         assert!(rt; read(alloc, &bytes) == Ok((1, 1, true)), "{magic:x} {big}");
     }
-    let bytes = trace_of(alloc, 0xA1B2_C3D4, false, &[(60, 60), (60, 60)])?;
+    let bytes = trace_of(
+        alloc,
+        0xA1B2_C3D4,
+        false,
+        &[(&[0xFF; 60], 60), (&[0xFF; 60], 60)],
+    )?;
     assert!(rt; bytes.len() == 176);
     for length in 0..177usize {
         let cut = bytes.get(..length).unwrap_or(&[]);
@@ -163,7 +171,12 @@ fn write<W: Sink>(alloc: Global, sink: &mut W, unit: Unit) -> Result<bool, Fail>
 #[test]
 fn devices_fail_at_any_call(rt: HostRuntime) -> Result<(), Fail> {
     let alloc = rt.alloc();
-    let bytes = trace_of(alloc, 0xA1B2_C3D4, false, &[(60, 60), (60, 60)])?;
+    let bytes = trace_of(
+        alloc,
+        0xA1B2_C3D4,
+        false,
+        &[(&[0xFF; 60], 60), (&[0xFF; 60], 60)],
+    )?;
     for fails_at in 0..26u64 {
         let reader = Reader {
             bytes: &bytes,
