@@ -21,6 +21,8 @@ mod lying_bus;
 #[cfg(test)]
 mod network;
 #[cfg(test)]
+mod numbers;
+#[cfg(test)]
 mod programs;
 #[cfg(test)]
 mod said;
