@@ -28,7 +28,7 @@ pub enum LineError<'a> {
     /// [`line`](crate::line). The text has the form of clap's texts.
     #[error("error: invalid UTF-8 was detected in one or more arguments\n\nUsage: nicbench <COMMAND>\n\n{}", FOR_MORE)]
     NotUnicode,
-    /// Out of memory elsewhere than for E45, E47 and E65. Free some, or split IN
+    /// Memory was refused.
     #[error("E57 Memory")]
     Memory,
 }

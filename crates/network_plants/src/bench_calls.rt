@@ -2,7 +2,7 @@
 //! these must imply the clauses of its twin. The edits in `must-fail/` are wrong bodies of twins. The twin `bench_with`
 //! owns its scenario, so that an edit can change the scenario before the call.
 
-ghost use Rattle.std.specs.Prelude.{◌≡◌, ◌<◌, ◌≤◌, All, IfErr, IfOk, length, map};
+ghost use Rattle.std.specs.Prelude.{◌≡◌, ◌<◌, ◌≤◌, [], All, IfErr, IfOk, false, length, map};
 ghost use Rattle.scenario.specs.SoFar.{hosts_of};
 ghost use Rattle.scenario_bench.specs.Benches.{Benches, Stops, sinks_of};
 ghost use Rattle.scenario_bench.specs.Given.{sockets_from};
@@ -13,6 +13,25 @@ use pcap_trace::{Sink, Trace, Unit};
 use scenario::Scenario;
 use scenario_bench::{BenchError, Summary};
 use std::alloc::Global;
+
+/// A twin of [`scenario_bench::bench`].
+pub fn bench<W: Sink>(
+    alloc: Global,
+    scenario: &Scenario,
+    traces: &[Trace],
+    unit: Unit,
+    sinks: &mut [W],
+) -> Result<Summary, BenchError>
+    requires traces { length traces.now ≡ length scenario.now.traces.items }
+    requires sinks { length sinks.old ≡ length (sockets_from 0 (hosts_of scenario.now.plan.hosts.items)) }
+    requires countable { All (λ (sink : W). W.failures sink < u64.MAX) sinks.old }
+    ensures ok { IfOk result (λ summary. Benches unit scenario.now (map trace_frames traces.now) false summary
+        (sinks_of W.taken W.failures sinks.old sinks.new [] [])) }
+    ensures err { IfErr result (λ error. Stops unit scenario.now (map trace_frames traces.now) error
+        (sinks_of W.taken W.failures sinks.old sinks.new [] [])) }
+{
+    scenario_bench::bench(alloc, scenario, traces, unit, sinks)
+}
 
 /// A twin of [`scenario_bench::bench_with`], with the clause for Ok.
 pub fn bench_with<W: Sink>(

@@ -15,34 +15,25 @@ use thiserror::Error;
 /// faults, the first in this order is returned.
 #[derive(Clone, Copy, Debug, PartialEq, Eq, Error)]
 pub enum ReadError {
-    /// IN has fewer than 24 bytes, so it isn't a trace. Name another file, or check the program that writes into the
-    /// pipe
+    /// The source has fewer than the 24 bytes of a file header.
     #[error("E60 Header")]
     Header,
-    /// IN isn't a pcap file. Convert a pcapng file: editcap -F pcap IN OUT
-    ///
     /// The first four bytes are neither 0xA1B2C3D4 (times in microseconds) nor 0xA1B23C4D (nanoseconds), in either byte
     /// order.
     #[error("E61 Magic")]
     Magic,
-    /// IN isn't a pcap file of version 2.4. Convert it: editcap -F pcap IN OUT
+    /// The version isn't 2.4.
     #[error("E62 Version")]
     Version,
-    /// IN isn't a trace of Ethernet frames. Capture it at an Ethernet interface
-    ///
-    /// The link type isn't 1.
+    /// The link type isn't 1, Ethernet.
     #[error("E63 LinkType")]
     LinkType,
-    /// A packet of IN claims more than 262,144 bytes, so IN is damaged. Capture it again
-    ///
-    /// The packet's header is complete. It is at the beginning or after complete packets.
+    /// A complete packet header, at the beginning or after complete packets, has a captured length above 262,144 bytes.
     #[error("E64 Record")]
     Record,
-    /// Out of memory while IN was read. Free some, or split IN: editcap -F pcap -c 100000 IN OUT
+    /// Memory was refused.
     #[error("E65 Memory")]
     Memory,
-    /// IN could not be read. Name a file, not a folder, or copy it to another disk
-    ///
     /// The source failed during the call.
     #[error("E66 Read")]
     Read,

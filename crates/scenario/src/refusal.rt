@@ -51,7 +51,7 @@ pub enum Refusal {
         /// The fault of the line.
         fault: Fault,
     },
-    /// Out of memory elsewhere than for E45, E47 and E65. Free some, or split IN
+    /// Memory was refused.
     #[error("E57 Memory")]
     Memory,
 }
