@@ -1,5 +1,5 @@
-//! Worked examples of the whole: registers, descriptors, frames on wires, resets, traces and the lines of the program,
-//! each played by the public calls, with the values that the specification names.
+//! Worked examples of the whole, each played by the public calls: registers, descriptors, frames on wires, resets,
+//! traces and the lines of the program. The expected values were worked out by hand, and not by this program.
 #![tactic(auto)]
 
 #[cfg(test)]
