@@ -1,5 +1,5 @@
-//! Worked examples of the whole: registers, descriptors, frames on wires, resets, traces and the lines of the program,
-//! each played by the public calls, with the values that the specification names.
+//! Worked examples of registers, descriptors, frames on wires, resets, traces, scenarios and the program's lines, played
+//! by public calls. Their expected values aren't computed by the crates.
 #![tactic(auto)]
 
 #[cfg(test)]
