@@ -19,9 +19,10 @@ pub(crate) struct Solo {
 /// Fills a frame with 0xFF, a broadcast destination among them, and sets its type.
 fn fill(frame: &mut [u8], kind: &str) {
     frame.fill(0xFF);
-    let number = u16::from_str_radix(kind, 16).unwrap_or(0).to_be_bytes();
-    if let Some(place) = frame.get_mut(12..14) {
-        place.copy_from_slice(&number);
+    let [high, low] = u16::from_str_radix(kind, 16).unwrap_or(0).to_be_bytes();
+    if frame.len() >= 14 {
+        frame[12] = high;
+        frame[13] = low;
     }
 }
 
