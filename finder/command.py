@@ -24,7 +24,7 @@ from finder.requests import kind_of
 from finder.schedule import HOLDS, TICKS, ScheduleError, by_name, parse, text_of
 from finder.server import ServerEnded
 from finder.shrink import Shrinker
-from finder.store import store
+from finder.store import store, store_page
 from finder.target import CannotRun, Target
 from finder.usage import HELP
 
@@ -324,14 +324,20 @@ class Finder:
         return text_of(self.shown(run), self.target.options, [" ".join(self.target.command), end_of(run)])
 
     def store(self, run: Run, text: str) -> bool:
-        """Stores a run, if --out is given. Returns False, after a message, if the run can't be stored."""
+        """Stores a run, if --out or --html is given. Returns False, after a message, if the run can't be stored."""
         try:
             if self.given["out"]:
                 store(self.given["out"], run, text, self.given["rows"] == "all")
+            if self.given["html"]:
+                store_page(self.given["html"], " ".join(self.target.command), run, self.compared(run))
         except OSError as error:
             tell(f"races: {error.filename}: {error.strerror}")
             return False
         return True
+
+    def compared(self, run: Run) -> Run | None:
+        """The run without deviations, to which a page compares a run with deviations. Otherwise None."""
+        return self.target.play_apart((), None, False) if run.met else None
 
     def end(self, status: int) -> int:
         """Prints what the runs reached, after a search that passes or finds nothing to play, or with --reached. With
@@ -413,7 +419,7 @@ class Finder:
 
 def call(words: Sequence[str]) -> int:
     given, command = arguments_of(words)
-    check_out(given["out"])
+    check_out(given)
     options = given["options"].split() if given["options"] is not None else None
     schedule: list[Deviation] = []
     path = given["replay"] or given["shrink"]

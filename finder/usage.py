@@ -40,6 +40,8 @@ and a chart.
   --out PATH           stores the schedule that was found or replayed in this file; if PATH is a
                        folder or ends with /, stores there schedule.txt, log.txt, chart.txt,
                        chart.svg and run.vcd (waves, for GTKWave)
+  --html FILE          stores a page of the run that was found or replayed, for a browser: rings,
+                       buffers and registers step by step, and the run without deviations
   --rows all           charts have all rows of the run. By default (near), they have those near
                        deviations and at the end
   --by-name            prints and stores the schedule without places: before read ICR#3 is before
