@@ -1,7 +1,7 @@
 """Tests the pages of runs: what each step changes, why a run fails, and the files that the programs write.
 
 The states are compared with the server's: what the driver reads, and the rings after each row. race_pages_rules.py
-tests the rules with short logs.
+tests the rules with short logs, and race_pages_browser.py opens pages in Chromium.
 """
 
 import os
