@@ -211,7 +211,7 @@ function trail(name) {
   D.run.forEach((change, number) => {
     const step = number + D.first;
     for (let n = 0; n < change.length; n += 2)
-      if (change[n] === index) links.push(`<a href="#${step}">#${step}</a> ${escaped(change[n + 1])}`);
+      if (change[n] === index) links.push(`<a href=#${step}>#${step}</a> ${escaped(change[n + 1])}`);
   });
   at('trail').innerHTML = links.length ? `<b>${escaped(name)}</b>: ${links.join(' \u2192 ')}` : '';
   return links.length ? +/#(\d+)/.exec(links[0])[1] : null;

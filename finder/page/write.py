@@ -84,7 +84,7 @@ def row_of(step: Optional[int], second: Optional[int], run: RunLog, its: Shown, 
         right = f"<s>{escape(other[1].texts[second])}</s>"
     lane = lanes.index(one.actor)
     at = f" class=l{lane}" if lane else ""
-    head = f"<li class=\"{' '.join(names)}\">" if names else "<li>"
+    head = f"<li id=\"{step}\" class=\"{' '.join(names)}\">" if names else f"<li id=\"{step}\">"
     return f"{head}<i>{escape(one.place)}</i><b{at}>{escape(text)}</b>{right}{notes.get(step, '')}\n"
 
 

@@ -20,7 +20,7 @@ from finder.page.write import page
 from finder.schedule import parse
 from finder.target import Target
 from harness import DRIVERS, TOP, text_of
-from race_finder import FOUND, PASSES, SMALL, SMALLEST, USAGE, find, replay
+from race_finder import FINDER, FOUND, PASSES, SMALL, SMALLEST, USAGE, find, replay
 from server import LIMIT
 
 STAGED = [sys.executable, "-S", "-E", os.path.join(DRIVERS, "staged_test.py")]
@@ -32,6 +32,7 @@ CHARTS = os.path.join("finder", "tests", "race_charts.txt")
 COMMAND = re.compile(r"\$ (?:(?:echo|printf) '(.*)' \| )?tools/races .*?-- python3 examples/drivers/staged_test.py"
                      " (.*)")
 MOST_BYTES = 200_000  # for 1,000 steps
+EXAMPLE = ["python3", "-S", "examples/drivers/receive_test.py", "wrong"]
 PAGE = [sys.executable, "-S", "-E", os.path.join(TOP, "tools", "race_page")]
 
 
@@ -261,6 +262,19 @@ def refused(server):
                  ((0, "", ""), server.get("x")))
 
 
+def example(server):
+    """docs/race.html is the page that its command makes."""
+    server.put("played", b"3.6 rx before read ICR\n")
+    words = ["--server", server.program, "--replay", server.path("played"), "--html", server.path("race.html"), "--",
+             *EXAMPLE]
+    status, _, errors = server.execute(*FINDER, *words, folder=TOP)
+    told = ("echo '3.6 rx before read ICR' | tools/races --replay /dev/stdin --html docs/race.html -- "
+            + " ".join(EXAMPLE))
+    same = server.get("race.html").decode() == text_of("docs", "race.html")
+    server.check("example: it is made", (status, errors), (FOUND, ""))
+    server.holds("example: docs/race.html", same, f"make it by: {told}")
+
+
 def all_cases(server):
-    for part in [states, frames, rules, pairs, sizes, escapes, json, files, refused]:
+    for part in [states, frames, rules, pairs, sizes, escapes, json, files, refused, example]:
         part(server)
