@@ -116,6 +116,7 @@ def arguments_of(words: Sequence[str]) -> Tuple[argparse.Namespace, List[str]]:
                     formatter_class=argparse.RawDescriptionHelpFormatter)
     parser.add_argument("--html", metavar="FILE", help="the page")
     parser.add_argument("--json", metavar="FILE", help="stores the log in JSON, too")
+    parser.add_argument("--command", metavar="TEXT", help="the page's title, in place of COMMAND or LOG")
     parser.add_argument("--replay", metavar="SCHEDULE", help="the schedule; with LOG, the page shows it")
     parser.add_argument("--seconds", type=seconds_of, default=60, metavar="N",
                         help="the time for a run of COMMAND (default 60)")
@@ -136,6 +137,8 @@ def make(words: Sequence[str]) -> int:
         log = log_of_command(command, args.replay, args.seconds)
     else:
         log = log_of_files(args.logs, schedule_of(args.replay) if args.replay else ())
+    if args.command:
+        log = log._replace(command=args.command)
     for path, text in ((args.html, page), (args.json, json_of)):
         if path:
             try:
