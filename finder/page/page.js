@@ -169,6 +169,15 @@ function showState() {
     `Changed: ${[...changed].filter(name => !/=$/.test(name)).map(name => `${name} ${cells[name]}`).join(', ') || 'nothing'}.`;
 }
 
+/** Scrolls the list, and nothing around it, until a row is visible, or in the middle. */
+function reveal(row, isCentered) {
+  const list = document.querySelector('.list'), box = list.getBoundingClientRect(), its = row.getBoundingClientRect();
+  const head = document.querySelector('.head').offsetHeight;
+  if (isCentered) list.scrollTop += its.top - box.top - (box.height - its.height) / 2;
+  else if (its.top < box.top + head) list.scrollTop += its.top - box.top - head;
+  else if (its.bottom > box.bottom) list.scrollTop += its.bottom - box.bottom;
+}
+
 function show(step, which = side, keepsHash = false) {
   side = which;
   now = Math.max(D.first, Math.min(D.first + runs[side].length - 1, step));
@@ -181,7 +190,7 @@ function show(step, which = side, keepsHash = false) {
   row.classList.add('now');
   row.classList.toggle('right', side === 'other');
   row.setAttribute('aria-current', 'step');
-  row.scrollIntoView({ block: 'nearest' });
+  reveal(row, false);
   at('number').value = now;
   if (!keepsHash) history.replaceState(null, '', side === 'run' ? `#${now}` : `#other${now}`);
   showState();
@@ -202,7 +211,7 @@ function compare(isOn) {
   }
   document.body.classList.toggle('both', isOn);
   at('compare').setAttribute('aria-pressed', isOn);
-  rowOf(side, now).scrollIntoView({ block: 'center' });
+  reveal(rowOf(side, now), true);
 }
 
 /** Shows where a frame was: each step that changed its place. */
@@ -313,5 +322,5 @@ if (!rows.some(row => row.classList.contains('why'))) at('wrong').hidden = true;
 if (!runs.run.length) at('state').textContent = 'The log has no steps.';
 else if (!follow()) {
   show(D.start, 'run', true);
-  rowOf('run', now).scrollIntoView({ block: 'center' });
+  reveal(rowOf('run', now), true);
 }

@@ -112,6 +112,14 @@ class Browser:
             raise Lost(f"{text}: {result['exceptionDetails'].get('exception', {}).get('description')}")
         return result["result"].get("value")
 
+    def until(self, text):
+        """Waits until an expression of the page is true."""
+        end = time.monotonic() + LIMIT
+        while not self.value(f"!!({text})"):
+            if time.monotonic() > end:
+                raise Lost(f"{text}: it is never true")
+            time.sleep(0.05)
+
     def press(self, key, text=""):
         """Presses a key."""
         extra = {"text": text} if text else {}
