@@ -11,6 +11,7 @@ from finder.explore import Window
 from finder.jobs import MOST_JOBS, processors
 from finder.schedule import ScheduleError, place_of
 from finder.store import check, is_folder
+from finder.terminal import WHEN
 
 TOP = os.path.dirname(os.path.dirname(os.path.abspath(__file__)))
 DEEPEST = 100  # the greatest depth of --pct
@@ -20,15 +21,15 @@ NUMBERS: Dict[str, Optional[int]] = {
 TEXTS: Dict[str, Optional[str]] = {
     "server": os.path.join(TOP, ".build", "nicbench"), "options": None, "out": None, "html": None, "replay": None,
     "shrink": None,
-    "shard": "1/1", "from": None, "to": None, "rows": "near"}
+    "shard": "1/1", "from": None, "to": None, "rows": "near", "color": "auto"}
 FLAGS = ("holds", "any-access", "by-name", "reached", "json", "apart", "no-digest", "all")
 OF_SEARCH = ("explore", "pct", "all")  # options that --replay and --shrink refuse
 # The values of all options, and the window of --from and --to
 Options = TypedDict("Options", {
     "runs": int, "seed": int, "first": int, "explore": Optional[int], "smaller": int, "seconds": int, "jobs": int,
     "pct": Optional[int], "server": str, "options": Optional[str], "out": Optional[str], "html": Optional[str],
-    "replay": Optional[str], "shrink": Optional[str], "shard": Tuple[int, int], "from": Optional[str],
-    "to": Optional[str], "rows": str, "window": Window, "holds": bool, "any-access": bool, "by-name": bool,
+    "replay": Optional[str], "shrink": Optional[str], "shard": Tuple[int, int], "from": Optional[str], "to":
+    Optional[str], "rows": str, "color": str, "window": Window, "holds": bool, "any-access": bool, "by-name": bool,
     "reached": bool, "json": bool, "apart": bool, "no-digest": bool, "all": bool})
 
 
@@ -85,6 +86,8 @@ def check_values(given: dict[str, Any]) -> None:
             raise UsageError(f"--{name}: use it without --replay and --shrink")
     if given["rows"] not in ("near", "all"):
         raise UsageError("--rows: use near or all")
+    if given["color"] not in WHEN:
+        raise UsageError(f"--color: use {', '.join(WHEN[:-1])} or {WHEN[-1]}")
     given["shard"] = shard_of(given["shard"])
     given["window"] = window_of(given["from"], given["to"])
     if any(given["window"]) and given["explore"] is None:

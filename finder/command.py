@@ -12,7 +12,7 @@ from contextlib import closing
 from typing import TYPE_CHECKING, Any, Callable, Optional, Sequence
 
 from finder.arguments import TEXTS, UsageError, arguments_of, check_out
-from finder.chart import chart, end_of
+from finder.chart import chart_of, end_of
 from finder.draw import Pct, actors_of, bound_of, drawing_of
 from finder.ends import BY_SIGNAL, Ended, Unprinted, check_output, holding, listen, prepare_output, say, tell
 from finder.explore import WHOLE, Search, explore, fails
@@ -26,6 +26,7 @@ from finder.server import ServerEnded
 from finder.shrink import Shrinker
 from finder.store import store, store_page
 from finder.target import CannotRun, Target
+from finder.terminal import chart_on, look_of
 from finder.usage import HELP
 
 if TYPE_CHECKING:
@@ -303,7 +304,8 @@ class Finder:
 
     def chart(self, run: Run) -> str:
         """The text of a run's chart."""
-        return chart(run, self.given["rows"] == "all")
+        rows = chart_of(run, self.given["rows"] == "all")
+        return chart_on(look_of(self.given["color"]), rows, end_of(run), not run.fault)
 
     def show(self, run: Run) -> None:
         """Prints a run's schedule, the end of its log, and its chart; and stores the run if --out is given."""

@@ -14,11 +14,12 @@ import sys
 from typing import NoReturn, Optional, Sequence
 
 from finder.arguments import UsageError
-from finder.chart import ChartRow, text_chart
+from finder.chart import ChartRow
 from finder.ends import BY_SIGNAL, Ended, Unprinted, listen, prepare_output, say, tell
 from finder.page.from_scenario import steps_of
 from finder.page.write import scenario_page
 from finder.svg import picture
+from finder.terminal import WHEN, chart_on, look_of
 
 MOST_ROWS = 500
 DRAWN, USAGE, UNWRITTEN = 0, 2, 3
@@ -147,6 +148,8 @@ def arguments_of(words: Optional[Sequence[str]]) -> argparse.Namespace:
     form.add_argument("--svg", action="store_true", help="write an SVG picture in place of a text")
     form.add_argument("--html", action="store_true",
                       help="write a page in place of a text: step by step, where the frames are")
+    parser.add_argument("--color", choices=WHEN, default="auto",
+                        help="colors in the text: auto, by default: on a terminal")
     parser.add_argument("--from", dest="first", type=number_of, default=0, metavar="N",
                         help="the first event, 0 by default")
     parser.add_argument("--to", dest="last", type=number_of, default=sys.maxsize, metavar="N", help="the last event")
@@ -172,7 +175,8 @@ def draw(args: argparse.Namespace) -> str:
     if args.html:
         return html_of(args, log, wires)
     rows, end = chart_rows(log, wires, args.first, args.last)
-    return (picture if args.svg else text_chart)(rows, end, columns_of(wires))
+    columns = columns_of(wires)
+    return picture(rows, end, columns) if args.svg else chart_on(look_of(args.color), rows, end, True, columns)
 
 
 def main(words: Optional[Sequence[str]] = None) -> int:

@@ -44,6 +44,8 @@ and a chart.
                        buffers and registers step by step, and the run without deviations
   --rows all           charts have all rows of the run. By default (near), they have those near
                        deviations and at the end
+  --color WHEN         colors in the chart: auto (default: on a terminal), always or never. On a
+                       terminal, a chart that is too wide has narrow lines
   --by-name            prints and stores the schedule without places: before read ICR#3 is before
                        the third read of ICR
   --replay FILE        plays one schedule
