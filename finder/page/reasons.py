@@ -56,6 +56,7 @@ class Watch:
         self.eerd: Optional[int] = None  # the step that read EERD without DONE
         self.stored: Dict[int, int] = {}  # bytes of staged transmit descriptors: the step of the last store
         self.dry: Optional[int] = None  # the step after which no receive slot is offered
+        self.masked: Dict[str, int] = {}  # causes that were masked again: the step
         self.clears: Optional[int] = None  # the last read of ICR that cleared a cause
         self.since: Set[str] = set()  # the actions of accesses since then
 
@@ -113,6 +114,12 @@ class Watch:
             self.read_head(name)
         elif name == "EERD" and step.action == "read" and not value & 0x10:
             self.eerd = self.at
+        elif name in ("IMS", "IMC") and step.action == "write":
+            for cause in causes_of(value):
+                if name == "IMS":
+                    self.masked.pop(cause, None)
+                elif state.mask & BIT[cause]:
+                    self.masked[cause] = self.at
         elif name.startswith("MTA[") and step.action == "write":
             self.write_groups(name, value)
         elif name == "CTRL" and step.action == "write" and value & RST:
@@ -121,6 +128,7 @@ class Watch:
                 self.find("mpc", f"The reset clears MPC, which counts {count} missed frame{'s' * (count > 1)} that the"
                           " driver hasn't read.", LOST_MISS)
             self.forgotten.clear()
+            self.masked.clear()
         elif name == "ICS" and step.action == "write" and value & state.mask:
             self.find("ics", f"The write of ICS records {' '.join(causes_of(value & state.mask))}, which IMS has: the"
                       " line is asserted again.", WAKES)
@@ -266,8 +274,9 @@ class Watch:
             if step.outcome == "fault":
                 engine = "receive" if ring.name == RX else "transmit"
                 section = NO_SECTION if slot.is_stored else UNSTORED[ring.name]
+                unstored = "" if slot.is_stored else " The log has no store of this descriptor before."
                 self.find("fault", f"{step.action} can't use the descriptor in {ring.name}[{ring.head}]: this fault"
-                          f" stops the {engine} engine until a reset.", section)
+                          f" stops the {engine} engine until a reset.{unstored}", section)
         elif ring.name == RX:
             self.find("rdt", f"rxdata uses rx[{ring.head}], but the driver hasn't stored a descriptor there since the"
                       " adapter used the slot: the frame goes to the old buffer.", BEFORE_STORED)
@@ -322,6 +331,10 @@ class Watch:
                 self.found.append(finding)
         if self.missed and state.registers.get("MPC", 0):
             self.found.append(self.missed)
+        for cause, step in self.masked.items():
+            if state.causes & BIT[cause]:
+                self.find("masked", f"From this write of IMC on, {cause} is masked. At the end of the run, {cause} is"
+                          " recorded, but doesn't assert the line.", NO_SECTION, step)
         if self.dry is not None:
             frames = ", ".join(str(frame.number) for frame in state.waiting)
             self.find("dry", "From this step on, no receive slot is offered. Waiting in the packet buffer: frame "

@@ -10,7 +10,7 @@ from typing import Any, Dict, Iterable, Iterator, List, NamedTuple, Optional, Se
 from finder.names import BITS, FIELDS, FIELD_BITS, SLOT
 from finder.page import from_scenario
 from finder.page.compare import Difference, Pair, align, difference
-from finder.page.log import ADAPTER, DRIVER, HANDLER, WIRE, Log, RunLog, Step
+from finder.page.log import ACTORS, ADAPTER, DRIVER, HANDLER, WIRE, Log, RunLog, Step
 from finder.page.reasons import Finding, reasons
 from finder.page.state import SHOWN, SLOTS, State
 from finder.page.texts import text_of
@@ -61,10 +61,11 @@ def shown(run: RunLog) -> Shown:
 
 
 def lanes_of(*runs: Optional[RunLog]) -> List[str]:
-    """The actors of some runs: those of a test of a driver, or the hosts and wires of a scenario, in their order."""
+    """The actors of some runs: the driver (or others, such as its processors), its handler, the adapter, the wire."""
     found = dict.fromkeys(step.actor for run in runs if run for step in run.steps)
-    usual = [DRIVER, *([HANDLER] if HANDLER in found else []), ADAPTER, WIRE]
-    return usual if {*found} <= {*usual} else list(found)
+    others = [actor for actor in found if actor not in ACTORS]
+    first = [] if others and DRIVER not in found else [DRIVER]
+    return [*first, *others, *([HANDLER] if HANDLER in found else []), ADAPTER, WIRE]
 
 
 def row_of(step: Optional[int], second: Optional[int], run: RunLog, its: Shown, other: Optional[Tuple[RunLog, Shown]],

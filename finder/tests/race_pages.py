@@ -193,6 +193,20 @@ def escapes(server):
     server.check("escapes: the end of the script", text.count("</script>"), 2)
 
 
+def lanes(server):
+    """Each actor has a lane: the processors of a driver, its handler if the log has one, the adapter, and the wire."""
+    def lanes_for(*actors):
+        text = page(Log("x", RunLog("x", steps=tuple(Step(actor, "mark", outcome="x") for actor in actors))))
+        return re.findall(r'<b style="grid-column:\d+">([^<]*)</b>', text)
+    for actors, wanted in [(["wire", "driver"], ["driver", "adapter", "wire"]),
+                           (["adapter", "handler", "driver"], ["driver", "handler", "adapter", "wire"]),
+                           (["processor 1", "adapter", "processor 0"],
+                            ["processor 1", "processor 0", "adapter", "wire"]),
+                           (["driver", "processor 1", "handler"],
+                            ["driver", "processor 1", "handler", "adapter", "wire"])]:
+        server.check(f"lanes: {actors}", lanes_for(*actors), wanted)
+
+
 def json(server):
     """A log in JSON is read as it was written. Another text is refused."""
     run, other = logs_of(server, [*STAGED, "stages", "late"], "4.6 rxdone before read ICR")
@@ -276,5 +290,5 @@ def example(server):
 
 
 def all_cases(server):
-    for part in [states, frames, rules, pairs, sizes, escapes, json, files, refused, example]:
+    for part in [states, frames, rules, pairs, sizes, escapes, lanes, json, files, refused, example]:
         part(server)

@@ -80,6 +80,9 @@ CASES = [
     (None, "", [SENT, "write TDT 0x1", "txtake: took", "txput: put", "read tx[0]+12, 1 bytes: 01", SENT]),
     ("cuts", "The handler cuts in on a send", [SENT, SENT]),
     (None, "", [SENT, SENT.replace("tx[0]", "tx[1]")]),
+    ("masked", "", ["write IMC 0x80", FRAME, *DONE]),
+    (None, "", ["write IMC 0x80", FRAME, *DONE, "write IMS 0x80"]),
+    (None, "", ["write IMC 0x2", FRAME, *DONE]),
     ("eerd", "A word is read before it is there", ["write EERD 0x1", "read EERD 0x1", "write EERD 0x101"]),
     (None, "", ["write EERD 0x1", "read EERD 0x1", "read EERD 0x20010", "write EERD 0x101"]),
 ]
