@@ -315,7 +315,7 @@ class Watch:
 
     def note_dry(self) -> None:
         ring = self.state.rings[RX]
-        is_dry = bool(ring.size()) and not ring.offered() and bool(self.state.waiting)
+        is_dry = bool(ring.size() and self.state.waiting) and not ring.left()
         if not is_dry:
             self.dry = None
         elif self.dry is None:

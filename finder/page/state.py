@@ -64,9 +64,12 @@ class Ring:
     def offered(self) -> List[int]:
         """The slots from the head up to, but not including, the tail."""
         size = self.size()
-        if not size or self.head >= size or self.tail >= size:
-            return []
-        return [(self.head + at) % size for at in range((self.tail - self.head) % size)]
+        return [(self.head + at) % size for at in range(self.left())]
+
+    def left(self) -> int:
+        """The number of slots that are offered."""
+        size = self.size()
+        return (self.tail - self.head) % size if max(self.head, self.tail) < size else 0
 
     def slots_in(self, address: int, size: int) -> List[int]:
         """The slots of which an access of memory contains bytes."""
@@ -123,8 +126,9 @@ class State:
 
     # Cells
 
-    def put(self, cell: str, text: str) -> None:
-        if self.cells.get(cell) != text:
+    def put(self, cell: str, text: str, default: Optional[str] = None) -> None:
+        """Sets the text of a cell. A cell that isn't set yet has the text `default`."""
+        if self.cells.get(cell, default) != text:
             self.cells[cell] = self.changed[cell] = text
 
     def put_number(self, register: str, value: int) -> None:
@@ -146,10 +150,10 @@ class State:
     def put_slot(self, ring: Ring, at: int) -> None:
         slot = ring.slots[at]
         buffer = "" if slot.buffer is None else f"{slot.buffer:#x}"
-        self.put(f"{ring.name}[{at}]", f"{slot.state}/{'' if slot.frame is None else slot.frame}/{buffer}")
+        self.put(f"{ring.name}[{at}]", f"{slot.state}/{'' if slot.frame is None else slot.frame}/{buffer}", "d//")
         found = (self.memory.get(ring.address(at) + byte) for byte in range(DESCRIPTOR))
         text = "".join(".." if byte is None else f"{byte:02x}" for byte in found)
-        self.put(f"{ring.name}[{at}]=", "" if text == ".." * DESCRIPTOR else text)
+        self.put(f"{ring.name}[{at}]=", "" if text == ".." * DESCRIPTOR else text, "")
 
     def put_frames(self) -> None:
         self.put("rx frames", " ".join(str(frame.number) for frame in self.waiting))
@@ -296,16 +300,22 @@ class State:
                 slot.is_stale = self.is_empty(ring, at)
                 slot.state = STAGED if self.is_stored(ring, at) else DRIVERS
             self.put(ring.name, "0")  # so that no cell of an earlier ring is shown
-        self.offer(ring)
-        self.put_ring(ring)
+        changed = self.offer(ring)
+        if part in ("DH", "DT"):
+            self.put_number(name, ring.head if part == "DH" else ring.tail)
+            for at in changed:
+                self.put_slot(ring, at)
+        else:
+            self.put_ring(ring)
 
-    def offer(self, ring: Ring) -> None:
-        """Sets the states of slots by the head and the tail."""
-        offered = ring.offered()
+    def offer(self, ring: Ring) -> List[int]:
+        """Sets the states of slots by the head and the tail. Returns the slots that have changed."""
+        offered, changed = ring.offered(), []
         for at in offered:
             slot = ring.slots[at]
             if slot.state not in (OFFERED, PROGRESS):
                 slot.state, slot.frame = OFFERED, None
+                changed.append(at)
                 if ring.name == TX:
                     slot.frame = self.sent
                     self.sent += 1
@@ -313,6 +323,8 @@ class State:
         for at in {*range(ring.size())}.difference(offered):
             if ring.slots[at].state == OFFERED:
                 ring.slots[at].state = STAGED
+                changed.append(at)
+        return changed
 
     def follow(self, ring: Ring, frame: Optional[int], where: str) -> None:
         """Notes where a frame is."""
@@ -377,7 +389,7 @@ class State:
         self.follow(ring, frame.number, f"rx[{at}]: in progress")
         if is_last:
             self.waiting.pop(0)
-        if len(ring.offered()) * 2 == ring.size():
+        if ring.left() * 2 == ring.size():
             self.record("RXDMT0")
         self.put_number("RDH", ring.head)
         self.put_slot(ring, at)

@@ -9,9 +9,10 @@ import re
 import sys
 from contextlib import closing
 from html.parser import HTMLParser
+from random import Random
 
 from finder.draw import drawing_of
-from finder.page.compare import align, difference
+from finder.page.compare import FARTHEST, Aligner, align, difference
 from finder.page.from_finder import of_access, of_event, of_run
 from finder.page.log import Log, LogError, RunLog, Step, json_of, log_in
 from finder.page.reasons import QUIET, findings, reasons
@@ -132,6 +133,28 @@ def pairs(server):
     same = of_run(run_of(server, [*STAGED, "stages", "late"]), "same")
     server.check("pairs: of equal runs", (difference(same, same), align(same, same)),
                  (None, [(at, at) for at in range(len(same.steps))]))
+
+
+def aligned(server):
+    """Any two lists are aligned: all steps are in the pairs, in order, and those in one pair are alike. After an
+    inserted part of at most FARTHEST steps, all steps are aligned again.
+    """
+    random = Random(3)
+    wrong = []
+    for _ in range(300):
+        keys, others = ([(random.choice("abcd"),) for _ in range(random.randrange(40))] for _ in range(2))
+        found = list(Aligner(keys, others).pairs())
+        ours, theirs = ([pair[side] for pair in found if pair[side] is not None] for side in (0, 1))
+        alike = all(keys[at] == others[its] for at, its in found if None not in (at, its))
+        if (ours, theirs, alike) != (list(range(len(keys))), list(range(len(others))), True):
+            wrong.append((keys, others, found))
+    server.check("aligned: random lists", wrong, [])
+    keys = [(str(random.randrange(1000)),) for _ in range(2000)]
+    for size, count in ((1, 2000), (FARTHEST, 2000)):
+        more = [*keys[:700], *[("more",)] * size, *keys[700:]]
+        for one, other in ((keys, more), (more, keys)):
+            found = [pair for pair in Aligner(one, other).pairs() if None not in pair]
+            server.check(f"aligned: {size} more", len(found), count)
 
 
 class Elements(HTMLParser):
@@ -290,5 +313,5 @@ def example(server):
 
 
 def all_cases(server):
-    for part in [states, frames, rules, pairs, sizes, escapes, lanes, json, files, refused, example]:
+    for part in [states, frames, rules, pairs, aligned, sizes, escapes, lanes, json, files, refused, example]:
         part(server)

@@ -205,6 +205,19 @@ def long(server, browser):
                  ("Step 6002", True, []))
 
 
+def large(server, browser):
+    """Of a large ring, the slots near the head are drawn."""
+    steps = [Step("driver", "write", "0.1", "RDLEN", 4, 65536), Step("driver", "write", "0.2", "RDH", 4, 4090),
+             Step("driver", "write", "0.3", "RDT", 4, 5)]
+    browser.open(stored("large", page(Log("large", RunLog("large", steps=tuple(steps))))))
+    ring = browser.value("document.querySelector('svg').getAttribute('aria-label')")
+    server.check("large: the ring", [text in ring for text in ("4096 slots", "rx[4090]: offered, RDH.",
+                                                              "rx[4]: offered.", "rx[5]: the driver's, RDT.")],
+                 [True] * 4)
+    server.check("large: slots", (browser.value("document.querySelectorAll('circle').length"), browser.troubles()),
+                 (48, []))
+
+
 def scenario(server, browser):
     """The page of a scenario shows where the frames of each host are."""
     ran = subprocess.run([server.program, "run", "--events", "-", os.path.join(TOP, "examples", "race.scenario"),
@@ -246,6 +259,7 @@ def all_cases(server):
         looks(server, browser, second, "txstop")
         hostile(server, browser)
         long(server, browser)
+        large(server, browser)
         scenario(server, browser)
     left = json.dumps(subprocess.run(["ps", "-o", "stat=", "-p", str(browser.process.pid)], capture_output=True,
                                      text=True, check=False).stdout.strip())
