@@ -9,6 +9,7 @@ from __future__ import annotations
 
 import argparse
 import os
+import re
 import signal
 import subprocess
 import sys
@@ -19,10 +20,11 @@ from finder.ends import BY_SIGNAL, Ended, Unprinted, listen, prepare_output, tel
 from finder.page.from_explorer import of_text
 from finder.page.log import Log, LogError, RunLog, json_of, log_in
 from finder.page.write import page
-from finder.schedule import ScheduleError, parse
+from finder.schedule import COMMENT
 
 STORED, USAGE, FAILED = 0, 2, 3
 NAMES = "the schedule", "without deviations"
+DEVIATION = re.compile(r"(?:\d+\.\d+(?:\+\d+)? )?[a-z][\w ]* before \S.*")
 MOST_BYTES = 64 << 20  # of a log
 NOTE = """\
 Exit status: 0 if the page was stored, 2 if an argument or a log is invalid, 3 if COMMAND couldn't
@@ -54,11 +56,12 @@ def read(path: str) -> str:
 
 
 def schedule_of(path: str) -> Tuple[str, ...]:
-    """The deviations of the schedule in a file. Raises UsageError."""
-    try:
-        return tuple(map(str, parse(read(path))[1]))
-    except ScheduleError as error:
-        raise UsageError(f"{path}: {error}") from None
+    """The lines of a schedule that have deviations, also those that only the explorer knows. Raises UsageError."""
+    lines = [COMMENT.sub("", line).strip() for line in read(path).splitlines()]
+    for number, line in enumerate(lines, 1):
+        if line and not DEVIATION.fullmatch(line) and line.split()[0] != "options":
+            raise UsageError(f"{path}: line {number} isn't a deviation, such as 4.6 rx before read ICR")
+    return tuple(line for line in lines if DEVIATION.fullmatch(line))
 
 
 def log_of_files(paths: Sequence[str], schedule: Tuple[str, ...]) -> Log:

@@ -9,10 +9,11 @@ from finder.names import FATES, OF_STEPS, is_register
 from finder.page.log import ADAPTER, DRIVER, HANDLER, WIRE, LogError, RunLog, Step
 
 PASSES = "The test passes."
-PLACE = r"  (\d+\.\d+) +"
+PLACE = r"  (\d+\.\d+(?:\+\d+)?) +"
 ACCESS = re.compile(PLACE + r"(read|write) ([^\s,]+)(?: (0|0x[0-9a-f]+)|, (\d+) bytes: ((?:[0-9a-f]{2})*)(?:\.\.)?|"
                             r" by a pointer(?:, where these bytes are: ((?:[0-9a-f]{2})*))?)")
-REQUEST = re.compile(PLACE + r"(arrive|offer|step|settle)(?:: (\w+))?")
+# Another place: a request of the test, a call of the explorer, or an access of a variable
+OTHER = re.compile(PLACE + r"(?!(?:read|write)\b)([a-z]+)\b(?:: (\w+))?(.*)")
 TAKEN = re.compile(r"([ *])        (\w+): (\w+)")
 CHANGE = re.compile(r"         the (?:line is (raised|lowered)|handler (cuts in|returns))")
 ENDINGS = {"raised": "raise", "lowered": "lower"}
@@ -26,11 +27,11 @@ def access_in(found: re.Match[str], actor: str) -> Step:
     return Step(actor, kind, place, name, int(size or 0), None, None if text is None else bytes.fromhex(text))
 
 
-def request_in(found: re.Match[str], actor: str) -> Step:
-    place, name, outcome = found.groups()
-    if name == "arrive":
+def other_in(found: re.Match[str], actor: str) -> Step:
+    place, name, outcome, more = found.groups()
+    if name == "arrive" and not more:
         return Step(WIRE, name, place, outcome=outcome or "")
-    return Step(actor, "request", place, outcome=name)
+    return Step(actor, "request", place, outcome=f"{name}{f': {outcome}' if outcome else ''}{more}")
 
 
 def taken_in(found: re.Match[str]) -> Step:
@@ -61,7 +62,7 @@ class Reader:
         """Takes a line. Returns False if it isn't a line of a step."""
         forms: Tuple[Tuple[re.Pattern[str], Callable[[re.Match[str]], object]], ...] = (
             (ACCESS, lambda found: self.steps.append(access_in(found, self.actor))),
-            (REQUEST, lambda found: self.steps.append(request_in(found, self.actor))),
+            (OTHER, lambda found: self.steps.append(other_in(found, self.actor))),
             (TAKEN, lambda found: self.steps.append(taken_in(found))), (CHANGE, self.change))
         for form, take in forms:
             found = form.fullmatch(line)

@@ -294,6 +294,10 @@ def refused(server):
         server.check(f"refused: {' '.join(words)}: no page", server.get("x"), None)
     ran = server.execute(*PAGE, "--html", "x", "--replay", "schedule", "--json", "x.json", "log", "log")
     server.check("refused: right files", (ran, server.get("x") is not None), ((0, "", ""), True))
+    server.put("late", b"options --rxa 2\n# a comment\n4.6+1 late irq before touch 0x10\nchoose 2 before choose#3\n")
+    ran = server.execute(*PAGE, "--html", "z", "--replay", "late", "log")
+    server.check("refused: deviations that the finder doesn't know",
+                 (ran, "4.6+1 late irq before touch 0x10" in server.get("z").decode()), ((0, "", ""), True))
     ran = server.execute(*PAGE, "--html", "y", "x.json")
     server.check("refused: the page of the JSON log is the same", (ran, server.get("y")),
                  ((0, "", ""), server.get("x")))

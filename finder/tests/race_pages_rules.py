@@ -145,6 +145,11 @@ def explorer(server):
         (ADAPTER, "eeprom", "", 0, False)])
     server.check("explorer: values", (run.fault, run.steps[1].data, run.steps[5].value, len(run.steps[8].data)),
                  (None, bytes.fromhex("3c000000"), 0x80, 16))
+    more = of_text("  4.6+1  touch 0x10\n  4.7    choose 0x2\n  4.8    arrive: stored\n  4.9    settle\nit fails\n",
+                   "run")
+    server.check("explorer: other places", [(step.actor, step.action, step.place, step.outcome) for step in more.steps],
+                 [(DRIVER, "request", "4.6+1", "touch 0x10"), (DRIVER, "request", "4.7", "choose 0x2"),
+                  (WIRE, "arrive", "4.8", "stored"), (DRIVER, "request", "4.9", "settle")])
     for bad in ("", "\n", "The test passes.\n", "  1.1    read ICR 0x80\n", "  1.1    read ICR\nok\n",
                 "         rxdata: done\nok\n", "x\n  1.1    read ICR 0x80\nok\n", text + "more\n",
                 "  1.1    read rx[0], 1 bytes: 0\nok\n"):
