@@ -12,6 +12,7 @@ from html.parser import HTMLParser
 from random import Random
 
 from finder.draw import drawing_of
+from finder.names import OF_STEPS
 from finder.page.compare import FARTHEST, Aligner, align, difference
 from finder.page.from_finder import of_access, of_event, of_run
 from finder.page.log import Log, LogError, RunLog, Step, json_of, log_in
@@ -26,6 +27,7 @@ from server import LIMIT
 
 STAGED = [sys.executable, "-S", "-E", os.path.join(DRIVERS, "staged_test.py")]
 QUEUE = [sys.executable, "-S", "-E", os.path.join(DRIVERS, "queue_test.py")]
+RANDOM = [sys.executable, "-S", "-E", os.path.join(TOP, "finder", "tests", "race_pages_requests.py")]
 RIGHT = [[*STAGED, "stages", "right"], [*STAGED, "stages", "masks"], [*STAGED, "offers", "right"],
          [*STAGED, "cuts", "pool"], [*STAGED, "groups", "right"], [*STAGED, "resets", "right"], [*QUEUE, "right"]]
 TXSTOP = "6.15 tx before read STATUS\n6.19 tx before read tx[1]+12\n6.23 tx before read tx[2]+12\n"
@@ -52,6 +54,36 @@ def rings_of(state):
     return tuple((ring.base, 16 * ring.size(), ring.head, ring.tail) for ring in state.rings.values())
 
 
+def differ(run):
+    """The first row of a run after which the state isn't what the server reports, with the reasons."""
+    state = State()
+    for row in run.rows:
+        step = of_access(row, "driver") if row.place else of_event(row, row.line.split(" "), "driver")
+        if step:
+            state.play(step)
+        if state.wrong or step and rings_of(state) != tuple(tuple(ring) for ring in row.rings):
+            return row.line, state.wrong, rings_of(state), row.rings
+    return None
+
+
+def random_states(server):
+    """The same holds for random requests, also with resets, faults, and rings that are moved. The page can be made."""
+    outcomes = set()
+    for seed in range(1, 25):
+        run = run_of(server, [*RANDOM, str(seed), "400"], seed=seed if seed % 2 else None)
+        server.check(f"random states: seed {seed}", (run.fault, differ(run)), (None, None))
+        log = of_run(run, "random")
+        outcomes |= {(step.action, step.outcome) for step in log.steps if step.actor != "driver"}
+        rows = Elements(page(Log("random", log))).rows()
+        last = max((one.step for one in findings(log)), default=0)
+        server.check(f"random states: seed {seed}, its page", (len(rows), last < len(log.steps)),
+                     (len(log.steps), True))
+    wanted = {(kind, outcome) for kind, its in OF_STEPS.items() for outcome in its} - {("txput", "wirefull")}
+    server.check("random states: all outcomes", wanted - outcomes, set())
+    fates = {outcome for action, outcome in outcomes if action == "arrive"}
+    server.check("random states: fates", {"off", "stored", "missed"} - fates, set())
+
+
 def states(server):
     """What a driver reads is what the steps before lead to. After each row, the rings are those that the server
     reports. This holds for drawn runs of drivers without a bug; and no rule finds anything in these runs.
@@ -60,15 +92,8 @@ def states(server):
         name = " ".join(command[4:])
         for seed in (None, 1, 2, 7):
             run = run_of(server, command, seed=seed)
-            state, differ = State(), []
-            for row in run.rows:
-                step = of_access(row, "driver") if row.place else of_event(row, row.line.split(" "), "driver")
-                if step:
-                    state.play(step)
-                    if rings_of(state) != tuple(tuple(ring) for ring in row.rings) and not differ:
-                        differ = [row.line, rings_of(state), row.rings]
             log = of_run(run, name)
-            server.check(f"states: {name}, seed {seed}", (run.fault, state.wrong, differ), (None, [], []))
+            server.check(f"states: {name}, seed {seed}", (run.fault, differ(run)), (None, None))
             found = [one for one in findings(log) if one.kind != QUIET]
             server.check(f"states: {name}, seed {seed}: no rule finds anything", (found, reasons(log, None)), ([], []))
 
@@ -317,5 +342,6 @@ def example(server):
 
 
 def all_cases(server):
-    for part in [states, frames, rules, pairs, aligned, sizes, escapes, lanes, json, files, refused, example]:
+    for part in [states, random_states, frames, rules, pairs, aligned, sizes, escapes, lanes, json, files, refused,
+                 example]:
         part(server)
