@@ -11,7 +11,8 @@ from page_maker.command import MARK, make_site
 
 NAME = sources.LIBRARY
 FOLDERS = ("docs", "examples", "machines", "bench", "bindings", "crates", "finder")
-FILES = ("README.md", "CHANGELOG.md", "LICENSE", os.path.join("tools", "races"), os.path.join("tools", "run_chart"))
+FILES = ("README.md", "CHANGELOG.md", "LICENSE", os.path.join("tools", "races"), os.path.join("tools", "race_page"),
+         os.path.join("tools", "run_chart"))
 # The site of tools/pages
 SITE = os.path.join("share", "doc", "nicbench", "site")
 # The pages show the command `./nicbench --build`. In a release, the program is built already.
