@@ -26,7 +26,7 @@ from finder.server import ServerEnded
 from finder.shrink import Shrinker
 from finder.store import store, store_page
 from finder.target import CannotRun, Target
-from finder.terminal import chart_on, look_of
+from finder.terminal import NOTHING_PLAYED, chart_on, look_of
 from finder.usage import HELP
 
 if TYPE_CHECKING:
@@ -37,7 +37,6 @@ if TYPE_CHECKING:
 
 PASSES, FOUND, USAGE, NOT_RUN, NOTHING = range(5)
 LOG_LINES, LONGEST_LINE = 30, 110
-NOTHING_PLAYED = "nothing was played: the test made no access to a register or to memory, no step and no arrival"
 # How a server ends that refuses its options
 REFUSED = "the server has ended with exit status 2"
 
@@ -306,14 +305,12 @@ class Finder:
     def chart(self, run: Run) -> str:
         """The text of a run's chart. If the run has no rows, a line reports this, and another one how the run ended."""
         if not run.rows:
-            return f"{NOTHING_PLAYED}\n   {end_of(run)}\n"
+            return NOTHING_PLAYED + f"   {end_of(run)}\n"
         rows = chart_of(run, self.given["rows"] == "all")
         return chart_on(look_of(self.given["color"]), rows, end_of(run), not run.fault)
 
     def show(self, run: Run) -> None:
-        """Prints a run's schedule, the end of its log, and its chart, if it has any; and stores the run if --out is
-        given.
-        """
+        """Prints a run's schedule, the end of its log, and its chart, if it has any; and stores the run for --out."""
         text = self.text_of(run)
         lines = [row.line for row in run.rows][-LOG_LINES:]
         shown = "".join(f"{line if len(line) <= LONGEST_LINE else line[:LONGEST_LINE] + '..'}\n" for line in lines)

@@ -20,6 +20,8 @@ INDENT = 4  # of rows in which the first column is empty
 BOLD, RED, GREEN, YELLOW, PLAIN = "\x1b[1m", "\x1b[31m", "\x1b[32m", "\x1b[33m", "\x1b[0m"
 # Columns whose names a row of a narrow chart must state: those of hosts and wires
 NAMED = re.compile(r"(?:host|wire) .*")
+# What is printed in place of a chart without rows
+NOTHING_PLAYED = "nothing was played: the test made no access to a register or to memory, no step and no arrival\n"
 
 
 class Look(NamedTuple):
