@@ -334,15 +334,17 @@ class Finder:
             if self.given["out"]:
                 store(self.given["out"], run, text, self.given["rows"] == "all")
             if self.given["html"]:
-                store_page(self.given["html"], " ".join(self.target.command), run, self.compared(run))
+                self.store_page(self.given["html"], run)
         except OSError as error:
             tell(f"races: {error.filename}: {error.strerror}")
             return False
         return True
 
-    def compared(self, run: Run) -> Run | None:
-        """The run without deviations, to which a page compares a run with deviations. Otherwise None."""
-        return self.target.play_apart((), None, False) if run.met else None
+    def store_page(self, path: str, run: Run) -> None:
+        """Stores a page of a run and of the run without deviations, both in new processes, which may send `mark`."""
+        again = run if self.is_given else self.target.play_apart(run.met, None, False)
+        other = self.target.play_apart((), None, False) if run.met else None
+        store_page(path, " ".join(self.target.command), again if again.fault == run.fault else run, other)
 
     def end(self, status: int) -> int:
         """Prints what the runs reached, after a search that passes or finds nothing to play, or with --reached. With
