@@ -12,7 +12,7 @@ from contextlib import closing
 from typing import TYPE_CHECKING, Any, Callable, Optional, Sequence
 
 from finder.arguments import TEXTS, UsageError, arguments_of, check_out
-from finder.chart import chart_of, end_of
+from finder.chart import end_of
 from finder.draw import Pct, actors_of, bound_of, drawing_of
 from finder.ends import BY_SIGNAL, Ended, Unprinted, check_output, holding, listen, prepare_output, say, tell
 from finder.explore import WHOLE, Search, explore, fails
@@ -26,7 +26,7 @@ from finder.server import ServerEnded
 from finder.shrink import Shrinker
 from finder.store import store, store_page
 from finder.target import CannotRun, Target
-from finder.terminal import NOTHING_PLAYED, chart_on, look_of
+from finder.terminal import text_of_run
 from finder.usage import HELP
 
 if TYPE_CHECKING:
@@ -303,11 +303,7 @@ class Finder:
         return shrinker.shrink(search.found), True  # `shrink` moves or lowers the deviations here, but drops none
 
     def chart(self, run: Run) -> str:
-        """The text of a run's chart. If the run has no rows, a line reports this, and another one how the run ended."""
-        if not run.rows:
-            return NOTHING_PLAYED + f"   {end_of(run)}\n"
-        rows = chart_of(run, self.given["rows"] == "all")
-        return chart_on(look_of(self.given["color"]), rows, end_of(run), not run.fault)
+        return text_of_run(run, self.given["rows"] == "all", self.given["color"])
 
     def show(self, run: Run) -> None:
         """Prints a run's schedule, the end of its log, and its chart, if it has any; and stores the run for --out."""
