@@ -1,8 +1,7 @@
 """Keeps the assembly of what the toolchain compiles: a folder of links to it, in which `clang` is a script of ours.
 
 The script calls the toolchain's clang as it was called. For each object it calls clang once more, with the same flags
-and input, and keeps the assembly with a copy of the object. Whoever has an archive or an object that contains this copy,
-byte for byte, has the assembly of its code.
+and input, and keeps the assembly with a copy of the object. The copy finds the assembly of an archive that contains it.
 """
 
 from __future__ import annotations
