@@ -2,10 +2,10 @@
 
 import os
 
+from clap_texts import DIGITS, FOR_MORE, KILOBYTES, reason, refused
 from helps import DRIVE_HELP, HELP, PASS_HELP, RUN_HELP, SERVE_HELP, SHOW_HELP
 import sources
 
-FOR_MORE = b"\nFor more information, try '--help'.\n"
 PASS_USAGE = b"\nUsage: nicbench pass [OPTIONS] <IN> <OUT>\n" + FOR_MORE
 RUN_USAGE = b"\nUsage: nicbench run [OPTIONS] <SCENARIO> <OUTDIR>\n" + FOR_MORE
 RUN_FILES_USAGE = b"\nUsage: nicbench run <SCENARIO> <OUTDIR>\n" + FOR_MORE
@@ -14,9 +14,6 @@ SERVE_USAGE = b"\nUsage: nicbench serve [OPTIONS]\n" + FOR_MORE
 ADDRESS_FORM = b"an address is six pairs of hexadecimal digits joined by colons, such as 02:00:00:00:00:01"
 GROUP_FORM = b"a group is an address whose first byte is odd, such as 01:00:5e:00:00:01"
 NOT_UNICODE = b"error: invalid UTF-8 was detected in one or more arguments\n\nUsage: nicbench <COMMAND>\n" + FOR_MORE
-RING_FORM = b"descriptors are a decimal number below 65536, such as 64"
-BUFFERS_FORM = b"buffers are a decimal number below 65536, such as 512"
-VLAN_FORM = b"a VLAN is a decimal number from 0 to 4095, such as 5"
 
 
 def words(bench):
@@ -86,20 +83,19 @@ def words(bench):
         (["serve", "--help"], SERVE_HELP),
         (["help", "serve"], SERVE_HELP),
         *((["drive", option, value, "--send", "a", "--receive", "b"],
-           b"error: invalid value '" + value.encode() + b"' for '" + option.encode() + b" <N>': " + what + b"\n"
-           + FOR_MORE)
-          for option, what in [("--rx", RING_FORM), ("--tx", RING_FORM), ("--buffers", BUFFERS_FORM)]
-          for value in ["", "65536", "+8", "0x8", "8 "]),
+           refused(value, f"{option} <N>", reason(value, 0, most, DIGITS)))
+          for option, most in [("--rx", 65535), ("--tx", 65535), ("--buffers", 65535), ("--expect", 2**64 - 1),
+                               ("--idle", 2**64 - 1)]
+          for value in ["", str(most + 1), "+8", "+", "0x8", "8 "]),
         (["drive", "--help"], DRIVE_HELP),
         (["help", "drive"], DRIVE_HELP),
         (["serve", "a"], b"error: unexpected argument 'a' found\n" + SERVE_USAGE),
         (["serve", "--vlan", "5"], b"error: unexpected argument '--vlan' found\n" + SERVE_USAGE),
-        (["serve", "--rxa", "3"],
-         b"error: invalid value '3' for '--rxa <N>': kilobytes are an even decimal number from 2 to 48, such as 48\n"
-         + FOR_MORE),
-        (["pass", "--vlan", "a", "b"],
+        (["serve", "--rxa", "3"], refused("3", "--rxa <N>", KILOBYTES)),
+        (["pass", "--address", "a", "b"],
          b"error: the following required arguments were not provided:\n  <OUT>\n\n"
-         b"Usage: nicbench pass --vlan <N> <IN> <OUT>\n" + FOR_MORE),
+         b"Usage: nicbench pass --address <A> <IN> <OUT>\n" + FOR_MORE),
+        (["pass", "--vlan", "a", "b"], refused("a", "--vlan <N>", b"invalid digit found in string")),
         (["pass", "--foo", "a", "b"],
          b"error: unexpected argument '--foo' found\n\n  tip: to pass '--foo' as a value, use '-- --foo'\n"
          + PASS_USAGE),
@@ -114,19 +110,20 @@ def words(bench):
                                      "02:00:00:00:00:1", "02:00:00:00:00:011", "0200:00:00:00:001", "02:00:00:00:00:+1",
                                      "02:00:00:00:00:é"]),
         "--group": (GROUP_FORM, ["", "02:00:00:00:00:01", "01:00:5e:00:00", "01:00:5e:00:00:0x"]),
-        "--vlan": (VLAN_FORM, ["", "4096", "70000", "99999999999999999999", "+8", "0x5", "5 ", "five"]),
     }
     for option, (form, texts_of) in values.items():
         for value in texts_of:
-            name = {"--address": b"--address <A>", "--group": b"--group <G>", "--vlan": b"--vlan <N>"}[option]
-            texts.append((["pass", option, value, "a", "b"],
-                          b"error: invalid value '" + value.encode() + b"' for '" + name + b"': " + form + b"\n"
-                          + FOR_MORE))
-    # Of several invalid values, the first in the order of the help is reported.
-    bad_address = b"error: invalid value 'x' for '--address <A>': " + ADDRESS_FORM + b"\n" + FOR_MORE
-    bad_group = b"error: invalid value 'y' for '--group <G>': " + GROUP_FORM + b"\n" + FOR_MORE
-    texts.append((["pass", "--vlan", "4096", "--group", "y", "--address", "x", "a", "b"], bad_address))
-    texts.append((["pass", "--vlan", "4096", "--group", "y", "a", "b"], bad_group))
+            name = {"--address": "--address <A>", "--group": "--group <G>"}[option]
+            texts.append((["pass", option, value, "a", "b"], refused(value, name, form)))
+    for value in ["", "4096", "70000", "99999999999999999999", "+8", "+4096", "0x5", "5 ", "five", "-1"]:
+        why = reason(value, 0, 4095, DIGITS)
+        texts.append((["pass", f"--vlan={value}", "a", "b"], refused(value, "--vlan <N>", why)))
+    # Of several invalid values, the first that clap refuses is reported, or else the first in the order of the help.
+    bad_vlan = refused("4096", "--vlan <N>", b"4096 is not in 0..=4095")
+    texts.append((["pass", "--group", "y", "--vlan", "4096", "--address", "x", "a", "b"], bad_vlan))
+    texts.append((["pass", "--vlan", "+5", "--group", "y", "--address", "x", "a", "b"],
+                  refused("x", "--address <A>", ADDRESS_FORM)))
+    texts.append((["pass", "--vlan", "+5", "--group", "y", "a", "b"], refused("y", "--group <G>", GROUP_FORM)))
     for line in [[b"\xff"], ["pass", b"a\xff.pcap", "b"], ["pass", "a", "b", b"--vlan=\xc3"], [b"\xff", "--help"]]:
         texts.append((line, NOT_UNICODE))
     before = set(os.listdir(bench.folder)) - {"a", "b", "c"}

@@ -249,4 +249,4 @@ class Drive:
         line = (f"sent {sent} illegal {len(self.handed) - sent} received {len(self.received)} missed "
                 f"{self.driver.missed} {exact}\n")
         is_all = len(self.handed) == len(self.frames) and len(self.received) >= (self.expect or 0)
-        return (line, 0) if is_all else (line + "nicbench: E69 Fewer\n", 1)
+        return (line, 0) if is_all else (f"nicbench: E69 Fewer\nnicbench: {line}", 1)

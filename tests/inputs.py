@@ -70,7 +70,7 @@ def all_cases(bench):
     for device in ("/dev/zero", "/dev/null"):
         fault = f"E68 Open: {device}"
         bench.fails(f"{device} as a trace", device, fault, 3)
-        bench.ends(f"{device} as a trace to show", ["show", device], 3, b"", f"nicbench: {fault}\n".encode())
+        bench.ends(f"{device} as a trace to show", ["show", device], 3, b"", failure(fault))
         bench.ends(f"{device} as a scenario", ["run", device, "outdir"], 3, b"", scenarios.refusal(fault))
     ends_of_input(bench)
 

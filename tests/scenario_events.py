@@ -167,9 +167,8 @@ def faults(bench):
     bench.put("s.scenario", EXAMPLE)
     folder(bench)
     ran = bench.run("run", "--events", "none/events.txt", "s.scenario", "outdir")
-    bench.check("events: no folder", (ran.returncode, ran.stdout, ran.stderr.splitlines()[0],
-                                      held(bench.path("outdir"))),
-                (3, b"", b"nicbench: E68 Open: none/events.txt", {}))
+    bench.check("events: no folder", (ran.returncode, ran.stdout, ran.stderr, held(bench.path("outdir"))),
+                (3, b"", refusal("E68 Open: none/events.txt"), {}))
     ran = bench.run("run", "--events", "/dev/full", "s.scenario", "outdir")
     bench.check("events: a full device", (ran.returncode, ran.stdout, ran.stderr), (3, b"", b"nicbench: E67 Write\n"))
     bench.check("events: the traces are whole", len(held(bench.path("outdir"))["b.0.pcap"]), 100)

@@ -2,12 +2,12 @@
 
 import re
 
+from clap_texts import DIGITS, FOR_MORE, KILOBYTES, reason, refused
 from codes import failure
 from server import ZERO, lines, number
 
 # A frame of 1,518 bytes. A receive packet buffer of 2 KB has room for one.
 FRAME = "ffffffffffff02000000000908000000".ljust(3036, "0")
-FOR_MORE = b"\nFor more information, try '--help'.\n"
 USAGE = b"\nUsage: nicbench serve [OPTIONS]\n" + FOR_MORE
 DEFAULTS = ["--memory", "1048576", "--registers", "0xFEB00000", "--address", "02:00:00:00:00:01", "--link", "1",
             "--rxa", "48", "--seed", "0", "--missed", "0"]
@@ -90,29 +90,36 @@ VALUES = {
                       ["", "02:00:00:00:00", "02-00-00-00-00-01"]),
     "--link <N|never>": (b"ticks are a decimal number from 1 to 65535, such as 1, or 'never'",
                          ["", "0", "65536", "Never", "0x1", "+1"]),
-    "--rxa <N>": (b"kilobytes are an even decimal number from 2 to 48, such as 48",
-                  ["", "0", "1", "3", "47", "49", "50", "258", "18446744073709551618", "0x10"]),
-    "--seed <N>": (b"a seed is a decimal number below 2^64, such as 7", ["", "x", "0x7", "+7", "18446744073709551616"]),
-    "--missed <N>": (b"a count is a decimal number below 2^32, such as 4294967294",
-                     ["", "x", "0x7", "+7", "-1", "4294967296"]),
+}
+# The numbers within bounds: the least and the greatest number, the form, and invalid values.
+NUMBERS = {
+    "--rxa <N>": (2, 48, KILOBYTES, ["", "0", "1", "3", "47", "49", "50", "258", "18446744073709551618", "0x10", "+8"]),
+    "--seed <N>": (0, 2**64 - 1, DIGITS, ["", "x", "0x7", "+7", "+", "18446744073709551616"]),
+    "--missed <N>": (0, 2**32 - 1, DIGITS, ["", "x", "0x7", "+7", "-1", "4294967296"]),
 }
 
 
 def words(server):
     """After invalid arguments, the status is 2, and the expected text is on standard error. No request is read."""
-    for name, (form, values) in VALUES.items():
+    cases = {name: [(value, form) for value in values] for name, (form, values) in VALUES.items()}
+    cases |= {name: [(value, reason(value, least, most, form)) for value in values]
+              for name, (least, most, form, values) in NUMBERS.items()}
+    for name, refusals in cases.items():
         option = name.split()[0]
-        for value in values:
+        for value, why in refusals:
             server.check(f"words: {option} {value!r}", server.serve(b"readl 0\n", f"{option}={value}"),
-                         (2, b"", f"error: invalid value '{value}' for '{name}': ".encode() + form + b"\n" + FOR_MORE))
+                         (2, b"", refused(value, name, why)))
         server.check(f"words: {option} twice", server.serve(b"", f"{option}=2", f"{option}=2"),
                      (2, b"", f"error: the argument '{name}' cannot be used multiple times\n".encode() + USAGE))
         server.check(f"words: {option} without a value", server.serve(b"", option),
                      (2, b"", f"error: a value is required for '{name}' but none was supplied\n".encode() + FOR_MORE))
     server.check("words: a file", server.serve(b"", "a"), (2, b"", b"error: unexpected argument 'a' found\n" + USAGE))
-    status, out, errors = server.serve(b"", "--seed=x", "--rxa=3", "--link=0", "--address=y", "--registers=z",
-                                       "--memory=w")
-    server.check("words: of several bad values the first in the order of the help",
+    bad = ["--rxa=3", "--link=0", "--address=y", "--registers=z", "--memory=w"]
+    server.check("words: of several bad values the first that clap refuses",
+                 server.serve(b"", *bad, "--seed=x", "--missed=x"),
+                 (2, b"", refused("x", "--seed <N>", b"invalid digit found in string")))
+    status, out, errors = server.serve(b"", "--seed=+7", *bad)
+    server.check("words: of several other bad values the first in the order of the help",
                  (status, out, errors.split(b":")[1]),
                  (2, b"", b" invalid value 'w' for '--memory <BYTES>'"))
 

@@ -12,7 +12,7 @@ RECEIVES = [(f"writel {BASE + RDLEN} 128", "OK"), ("writeq 0 0x800", "OK"), ("wr
             (f"writel {BASE + RCTL} 0x8002", "OK"), (f"writel {BASE + IMS} 0x80", "OK")]
 READ_ICR = f"readl {BASE + ICR}"
 RAISED, LOWERED = "IRQ raise 0\n", "IRQ lower 0\n"
-UNMET = b"nicbench: E71 Unmet\n"
+REFUSED, UNMET = b"nicbench: E70 Schedule\n", b"nicbench: E71 Unmet\n"
 
 
 def put(server, *deviations):
@@ -80,11 +80,11 @@ def unmet(server):
         put(server, "0.1 tx before read rx[1]+8", deviation)
         status, out, errors = server.serve(lines(asked), "--schedule", "schedule")
         met = lines(f"nicbench: not met: {one}" for one in ("0.1 tx before read rx[1]+8", deviation))
-        server.check(f"schedules: unmet, {name}", (status, out.count(b"OK"), errors), (1, len(asked), met + UNMET))
+        server.check(f"schedules: unmet, {name}", (status, out.count(b"OK"), errors), (1, len(asked), UNMET + met))
     put(server, "1.1 rx before read ICR", "1.1 rx before read STATUS")
     got = server.serve(lines(["settle", READ_ICR]), "--schedule", "schedule")
     server.check("schedules: one of two is unmet", got,
-                 (1, lines([ZERO, ZERO]), b"nicbench: not met: 1.1 rx before read STATUS\n" + UNMET))
+                 (1, lines([ZERO, ZERO]), UNMET + b"nicbench: not met: 1.1 rx before read STATUS\n"))
 
 
 def refused(server):
@@ -94,22 +94,22 @@ def refused(server):
     for text, told in [("4.6 rx", "line 1: no access or request is named"),
                        ("# x\n4.6 fly before read ICR", "line 2: no deviation"),
                        ("1.2 rx before read ICR\n1.1 rx before read ICR", "line 2: sort the lines by place"),
-                       ("options --rxa 2\n", "options"), ("options --seeds 2\n", "options"),
-                       ("options run\n", "options")]:
+                       *[(f"options {words}\n", "the schedule is for an adapter with other options: see its first line")
+                         for words in ("--rxa 2", "--seeds 2", "run")]]:
         server.put("schedule", text.encode())
         status, out, errors = server.serve(b"settle\n", "--schedule", "schedule")
-        start = f"nicbench: E70 Schedule {told}".encode()
+        start = REFUSED + f"nicbench: {told}".encode()
         server.check(f"schedules: refused, {text!r}", (status, out, errors[:len(start)], errors.count(b"\n")),
-                     (1, b"", start, 1))
+                     (1, b"", start, 2))
     server.put("schedule", b"\xff")
     server.check("schedules: not UTF-8", server.serve(b"settle\n", "--schedule", "schedule"),
-                 (1, b"", b"nicbench: E70 Schedule the text isn't UTF-8\n"))
+                 (1, b"", REFUSED + b"nicbench: the text isn't UTF-8\n"))
     for name, fault in [("missing", "E68 Open: missing"), (".", "E66 Read"), ("/dev/zero", "E68 Open: /dev/zero"),
                         ("-", "E68 Open: -")]:
         server.check(f"schedules: {name}", server.serve(b"settle\n", "--schedule", name),
                      (3, b"", failure(fault, name)))
     server.check("schedules: no folder to record in", server.serve(b"settle\n", "--record", "missing/record"),
-                 (3, b"", b"nicbench: E68 Open: missing/record\n"))
+                 (3, b"", failure("E68 Open: missing/record")))
     for words in [["--rxa", "2"], ["--rxa=2", "--seed", "3"]]:
         server.put("schedule", b"options --rxa 2 --seed 9\n")
         server.check(f"schedules: options {words}", server.serve(b"settle\n", "--schedule", "schedule", *words),
@@ -171,11 +171,11 @@ def chosen(server):
                         ("1.0 choose 1 before choose", "before")]:
         server.put("schedule", text.encode())
         status, out, errors = server.serve(b"settle\n", "--schedule", "schedule")
-        begins = errors.startswith(f"nicbench: E70 Schedule line 1: {fault}".encode())
+        begins = errors.startswith(REFUSED + f"nicbench: line 1: {fault}".encode())
         server.check(f"schedules: refused, {text!r}", (status, out, begins), (1, b"", True))
     put(server, "0.1 choose 1 before choose")
     server.check("schedules: choose is unmet", server.serve(b"settle\n", "--schedule", "schedule"),
-                 (1, lines([ZERO]), b"nicbench: not met: 0.1 choose 1 before choose\n" + UNMET))
+                 (1, lines([ZERO]), UNMET + b"nicbench: not met: 0.1 choose 1 before choose\n"))
     asked = lines(["interleave 1", *[f"choose {limit}" for limit in (1, 2, 3, 1000, 1000000000)], "readb 0"] * 3)
     seen = set()
     for seed in range(20):

@@ -73,13 +73,13 @@ class RustReader:
         return bisect.bisect_right(self.starts, at)
 
     def docs_above(self, number: int) -> str:
-        """The doc comment above a line. Attributes may be between them."""
+        """The doc comment above a line. Attributes and plain comments may be between them."""
         found = []
         for line in (line.strip() for line in reversed(self.lines[:number - 1])):
-            attribute = line.startswith(("#[", "#![")) and not found or line.endswith(")]") and not found
+            between = line.startswith(("#[", "#![", "//")) or line.endswith(")]")
             if line.startswith("///"):
                 found.append(line)
-            elif not attribute:
+            elif found or not between:
                 break
         return comment_text(found[::-1])
 

@@ -10,7 +10,7 @@ use dma_memory::HostMemory;
 use std::hash::Hasher;
 
 /// Calls [`Adapter::step`] twice.
-#[tactic(auto, using(crate::specs::OneAnswer::one_answer))]
+#[tactic(auto, using(crate::specs::OneAnswer::answers_are_one))]
 pub fn step_twice(
     one: &mut Adapter,
     other: &mut Adapter,

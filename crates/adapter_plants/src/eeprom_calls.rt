@@ -17,7 +17,7 @@ pub fn checksum_ok_twice(one: &Image, other: &Image) -> (bool, bool)
     requires { one.now ≡ other.now }
     ensures { result.0 ≡ result.1 }
 {
-    (eeprom::checksum_ok(one), registers::checksum_ok(other))
+    (eeprom::checksum_ok(one), eeprom::checksum_ok(other))
 }
 
 /// Calls [`Eerd::write`] twice.

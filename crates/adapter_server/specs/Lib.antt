@@ -5,3 +5,4 @@ pub mod NewSessions
 pub mod Answers
 pub mod Serving
 pub mod Tasks
+pub mod Statuses

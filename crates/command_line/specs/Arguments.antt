@@ -4,15 +4,16 @@ use Rattle.clap.specs.declared.builder.action.ArgAction.{ArgAction}
 use Rattle.clap.specs.declared.builder.action.ArgAction.TheVariants as action
 use Rattle.clap.specs.Simple.{on_top}
 use Rattle.clap.specs.Words.{App, Rule, Text, new_app, with_rule, with_subcommand}
-use Rattle.command_line.specs.Shape.{file_rule, flag_rule, option_rule, required_rule}
+use Rattle.command_line.specs.Shape.{file_rule, flag_rule, number_rule, option_rule, required_rule}
 use Rattle.command_line.specs.declared.command.Argument.{Argument}
 use Rattle.command_line.specs.declared.command.Form.{Form}
-use Rattle.command_line.specs.declared.command.Form.TheVariants.{File, Flag, Required, Value}
+use Rattle.command_line.specs.declared.command.Form.TheVariants.{File, Flag, Number, Required, Value}
 use Rattle.command_line.specs.declared.command.CommandRow.{CommandRow}
 
 -- whether an argument of this form is required
 abbrev pub is_required_form : Form → Bool
 is_required_form Value = false
+is_required_form (Number least most) = false
 is_required_form Required = true
 is_required_form Flag = false
 is_required_form File = true
@@ -25,6 +26,7 @@ action_of_form _ = action.Set
 -- clap's rule for an argument of this form and this name
 abbrev pub rule_of_form : Form → Text → Rule
 rule_of_form Value name = option_rule name
+rule_of_form (Number least most) name = number_rule least most name
 rule_of_form Required name = required_rule name
 rule_of_form Flag name = flag_rule name
 rule_of_form File name = file_rule name

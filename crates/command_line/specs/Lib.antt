@@ -3,3 +3,4 @@ pub mod Errors
 pub mod Jobs
 pub mod Shape
 pub mod Spelling
+pub mod Statuses

@@ -1,13 +1,22 @@
 -- The program's command line without its help texts, as clap's contracts describe it (our choice).
-use Rattle.std.specs.Prelude.{List, Option, Some, codes, true}
+use Rattle.std.specs.Prelude.{◌-◌, ◌^◌, ℕ, List, Option, Some, codes, true}
 use Rattle.clap.specs.Words.{App, Row, Rule, Text, fault_of, new_app, new_rule, subcommand_of, with_rule, with_subcommand}
 use Rattle.clap.specs.Kinds.{Kinds}
 use Rattle.clap.specs.Simple.{on_top}
 use Rattle.clap.specs.declared.builder.ArgAction.TheVariants as action
+use Rattle.clap.specs.declared.builder.value_parser.ValueParser.TheVariants as parsers
 
 -- an option that takes one value, and occurs at most once; its value has one name in the help text
 abbrev pub option_rule : Text → Rule
 option_rule name = record (new_rule name) { long = Some name; action = Some action.Set; value_names = 1 }
+
+-- such an option, whose value clap accepts only if it is a decimal number within these bounds
+abbrev pub number_rule : (least most : ℕ) → Text → Rule
+number_rule least most name = record (option_rule name) { parser = Some (parsers.Unsigned least most) }
+
+-- an option whose value is a decimal number of at most this many bits
+abbrev pub bits_rule : (bits : ℕ) → Text → Rule
+bits_rule bits name = number_rule 0 (2 ^ bits - 1) name
 
 -- an option that takes no value, and occurs at most once
 abbrev pub flag_rule : Text → Rule
@@ -25,7 +34,7 @@ file_rule name = record (new_rule name) { required = true; action = Some action.
 unfoldable pub pass_app : App
 pass_app =
     with_rule (with_rule (with_rule (with_rule (with_rule (with_rule (new_app (codes "pass"))
-    (option_rule (codes "address"))) (option_rule (codes "group"))) (option_rule (codes "vlan"))) (flag_rule (codes "nanos")))
+    (option_rule (codes "address"))) (option_rule (codes "group"))) (number_rule 0 4095 (codes "vlan"))) (flag_rule (codes "nanos")))
     (file_rule (codes "IN"))) (file_rule (codes "OUT"))
 
 -- `run [--wires] [--nanos] [--events FILE] SCENARIO OUTDIR`
@@ -45,15 +54,15 @@ unfoldable pub serve_app : App
 serve_app =
     with_rule (with_rule (with_rule (with_rule (with_rule (with_rule (with_rule (with_rule (with_rule (with_rule (new_app (codes "serve"))
     (option_rule (codes "memory"))) (option_rule (codes "registers"))) (option_rule (codes "address")))
-    (option_rule (codes "image"))) (option_rule (codes "link"))) (option_rule (codes "rxa"))) (option_rule (codes "seed")))
-    (option_rule (codes "missed"))) (option_rule (codes "schedule"))) (option_rule (codes "record"))
+    (option_rule (codes "image"))) (option_rule (codes "link"))) (number_rule 2 48 (codes "rxa"))) (bits_rule 64 (codes "seed")))
+    (bits_rule 32 (codes "missed"))) (option_rule (codes "schedule"))) (option_rule (codes "record"))
 
 -- `drive [--registers ADDRESS] [--memory BYTES] [--rx N] [--tx N] [--buffers N] [--expect N] [--idle N] --send IN --receive OUT`
 unfoldable pub drive_app : App
 drive_app =
     with_rule (with_rule (with_rule (with_rule (with_rule (with_rule (with_rule (with_rule (with_rule (new_app (codes "drive"))
-    (option_rule (codes "registers"))) (option_rule (codes "memory"))) (option_rule (codes "rx"))) (option_rule (codes "tx")))
-    (option_rule (codes "buffers"))) (option_rule (codes "expect"))) (option_rule (codes "idle")))
+    (option_rule (codes "registers"))) (option_rule (codes "memory"))) (bits_rule 16 (codes "rx"))) (bits_rule 16 (codes "tx")))
+    (bits_rule 16 (codes "buffers"))) (bits_rule 64 (codes "expect"))) (bits_rule 64 (codes "idle")))
     (required_rule (codes "send"))) (required_rule (codes "receive"))
 
 -- the program, which has a version and requires a subcommand, and shows its help if no word follows its name

@@ -7,6 +7,8 @@ ghost use Rattle.command_line.specs.Arguments.{with_subcommands};
 ghost use Rattle.command_line.specs.Shape.{drive_app, pass_app, program_app, run_app, serve_app, show_app};
 
 use crate::help::*;
+use crate::spelling::{HIGHEST_VLAN, LEAST_KILOBYTES, MOST_KILOBYTES};
+use clap::builder::ValueParser;
 use clap::{Arg, ArgAction, Command};
 use std::alloc::{AllocError, Global};
 
@@ -15,6 +17,8 @@ use std::alloc::{AllocError, Global};
 pub(crate) enum Form {
     /// An option `--NAME VALUE`, used at most once.
     Value,
+    /// An option `--NAME N`, used at most once, whose number clap accepts within these bounds, both included.
+    Number(u64, u64),
     /// An option `--NAME VALUE`, used exactly once.
     Required,
     /// An option `--NAME` without a value, used at most once.
@@ -46,7 +50,7 @@ fn action_of(form: Form) -> ArgAction
 {
     match form {
         Form::Flag => ArgAction::SetTrue,
-        Form::Value | Form::Required | Form::File => ArgAction::Set,
+        Form::Value | Form::Number(_, _) | Form::Required | Form::File => ArgAction::Set,
     }
 }
 
@@ -64,6 +68,10 @@ fn clap_argument<'a>(alloc: Global, argument: &Argument<'a>) -> Arg<'a>
         Form::File => arg,
         Form::Flag => arg.long(name),
         Form::Value | Form::Required => arg.long(name).value_name(value),
+        Form::Number(least, most) => {
+            let parser = ValueParser::unsigned(least, most);
+            arg.long(name).value_name(value).value_parser(parser)
+        }
     }
 }
 
@@ -83,7 +91,7 @@ fn clap_command<'a>(alloc: Global, row: &CommandRow<'a>) -> Result<Command<'a>, 
 const PASS_ARGUMENTS: [Argument<'static>; 6] = [
     Argument("address", Form::Value, "A", ADDRESS_HELP),
     Argument("group", Form::Value, "G", GROUP_HELP),
-    Argument("vlan", Form::Value, "N", VLAN_HELP),
+    Argument("vlan", Form::Number(0, HIGHEST_VLAN), "N", VLAN_HELP),
     Argument("nanos", Form::Flag, "", NANOS_HELP),
     Argument("IN", Form::File, "", READ_HELP),
     Argument("OUT", Form::File, "", WRITTEN_HELP),
@@ -126,9 +134,14 @@ const SERVE_ARGUMENTS: [Argument<'static>; 10] = [
     Argument("address", Form::Value, "A", EEPROM_ADDRESS_HELP),
     Argument("image", Form::Value, "FILE", IMAGE_HELP),
     Argument("link", Form::Value, "N|never", LINK_HELP),
-    Argument("rxa", Form::Value, "N", RXA_HELP),
-    Argument("seed", Form::Value, "N", SEED_HELP),
-    Argument("missed", Form::Value, "N", MISSED_HELP),
+    Argument(
+        "rxa",
+        Form::Number(LEAST_KILOBYTES, MOST_KILOBYTES),
+        "N",
+        RXA_HELP,
+    ),
+    Argument("seed", Form::Number(0, u64::MAX), "N", SEED_HELP),
+    Argument("missed", Form::Number(0, u32::MAX as u64), "N", MISSED_HELP),
     Argument("schedule", Form::Value, "FILE", SCHEDULE_HELP),
     Argument("record", Form::Value, "FILE", RECORD_HELP),
 ];
@@ -143,11 +156,16 @@ fn serve() -> CommandRow<'static>
 const DRIVE_ARGUMENTS: [Argument<'static>; 9] = [
     Argument("registers", Form::Value, "ADDRESS", REGISTERS_HELP),
     Argument("memory", Form::Value, "BYTES", DRIVE_MEMORY_HELP),
-    Argument("rx", Form::Value, "N", RX_HELP),
-    Argument("tx", Form::Value, "N", TX_HELP),
-    Argument("buffers", Form::Value, "N", BUFFERS_HELP),
-    Argument("expect", Form::Value, "N", EXPECT_HELP),
-    Argument("idle", Form::Value, "N", IDLE_HELP),
+    Argument("rx", Form::Number(0, u16::MAX as u64), "N", RX_HELP),
+    Argument("tx", Form::Number(0, u16::MAX as u64), "N", TX_HELP),
+    Argument(
+        "buffers",
+        Form::Number(0, u16::MAX as u64),
+        "N",
+        BUFFERS_HELP,
+    ),
+    Argument("expect", Form::Number(0, u64::MAX), "N", EXPECT_HELP),
+    Argument("idle", Form::Number(0, u64::MAX), "N", IDLE_HELP),
     Argument("send", Form::Required, "IN", SEND_HELP),
     Argument("receive", Form::Required, "OUT", RECEIVE_HELP),
 ];

@@ -1,40 +1,54 @@
 //! Why words were refused, with the text for the user.
 ghost use Rattle.std.specs.Prelude.{◌≡◌};
 ghost use Rattle.command_line.specs.Errors.{IsFromClap};
+ghost use Rattle.command_line.specs.Statuses.{line_status};
 ghost use Rattle.command_line.specs.declared.error.LineError.TheVariants.{Memory};
 
 use crate::ValueOption;
 use crate::values::name_of;
 use clap::error::ErrorKind;
 use std::alloc::AllocError;
-use std::fmt;
+use thiserror::Error;
+
+/// The last line of the texts that aren't clap's own, as clap writes it.
+const FOR_MORE: &str = "For more information, try '--help'.\n";
 
 /// Why words were refused. The text of each variant but `Memory` is the text for standard error, with its last line
 /// feed.
-#[derive(Drop)]
+#[derive(Debug, Drop, Error)]
 pub enum LineError<'a> {
     /// clap refused the words, or the words ask for help or the version. The text is clap's.
+    #[error(transparent)]
     Words(clap::Error),
     /// clap accepted the words, but the value of an option doesn't have the option's form, or can't be used with
     /// another option.
+    #[error(transparent)]
     Value(InvalidValue<'a>),
     /// A word isn't UTF-8. Only the caller that takes the words from the system returns this, never
-    /// [`line`](crate::line).
+    /// [`line`](crate::line). The text has the form of clap's texts.
+    #[error("error: invalid UTF-8 was detected in one or more arguments\n\nUsage: nicbench <COMMAND>\n\n{}", FOR_MORE)]
     NotUnicode,
     /// Memory was refused.
+    #[error("E57 Memory")]
     Memory,
 }
 
-/// The text of `NotUnicode`, in the form of clap's texts.
-const NOT_UNICODE: &str = "error: invalid UTF-8 was detected in one or more arguments
+impl LineError<'_> {
+    /// Returns the program's exit status for this error.
+    pub fn status(&self) -> u8
+        ensures { result ≡ line_status self.now }
+    {
+        match self {
+            LineError::Words(_) | LineError::Value(_) | LineError::NotUnicode => 2,
+            LineError::Memory => 4,
+        }
+    }
+}
 
-Usage: nicbench <COMMAND>
-
-For more information, try '--help'.
-";
-
-/// A value that doesn't have its option's form, or can't be used with another option.
-#[derive(Clone, Copy)]
+/// A value that doesn't have its option's form, or can't be used with another option. `form_of` contains the quotation
+/// mark that closes the option and its value.
+#[derive(Clone, Copy, Debug, Error)]
+#[error("error: invalid value '{text}' for '--{} {}\n\n{}", name_of(*.option), form_of(*.option), FOR_MORE)]
 pub struct InvalidValue<'a> {
     /// The option that the value was given for.
     pub option: ValueOption,
@@ -61,39 +75,15 @@ impl<'a> From<AllocError> for LineError<'a> {
     }
 }
 
-impl fmt::Display for LineError<'_> {
-    fn fmt<W: fmt::Write>(&self, f: &mut fmt::Formatter<W>) -> fmt::Result {
-        match self {
-            LineError::Words(error) => error.fmt(f),
-            LineError::Value(value) => value.fmt(f),
-            LineError::NotUnicode => f.write_str(NOT_UNICODE),
-            LineError::Memory => f.write_str("out of memory"),
-        }
-    }
-}
-
-impl fmt::Display for InvalidValue<'_> {
-    fn fmt<W: fmt::Write>(&self, f: &mut fmt::Formatter<W>) -> fmt::Result {
-        let name = name_of(self.option);
-        let form = form_of(self.option);
-        let text = self.text;
-        // `form` contains the quotation mark that closes the option and its value.
-        write!(
-            f,
-            "error: invalid value '{text}' for '--{name} {form}\n\nFor more information, try '--help'.\n"
-        )
-    }
-}
-
 /// Returns the end of an error's first line, after the option's name: the name of the option's value in help, and which
-/// values are valid. For `--image`, the line ends with the reason why the option was refused.
+/// values are valid. For `--image`, the line ends with the reason why the option was refused. clap itself refuses most
+/// numbers of [`Form::Number`](crate::command::Form), but not one with a plus sign, nor an odd number for `--rxa`.
 fn form_of(option: ValueOption) -> &'static str {
     match option {
         ValueOption::Address =>
             "<A>': an address is six pairs of hexadecimal digits joined by colons, such as 02:00:00:00:00:01",
         ValueOption::Group =>
             "<G>': a group is an address whose first byte is odd, such as 01:00:5e:00:00:01",
-        ValueOption::Vlan => "<N>': a VLAN is a decimal number from 0 to 4095, such as 5",
         ValueOption::Memory =>
             "<BYTES>': bytes are a decimal number below 2^64, or a hexadecimal one after 0x, such as 0x100000",
         ValueOption::Registers =>
@@ -102,13 +92,14 @@ fn form_of(option: ValueOption) -> &'static str {
             "<FILE>': the file contains the address, so --address can't be used with it",
         ValueOption::Link =>
             "<N|never>': ticks are a decimal number from 1 to 65535, such as 1, or 'never'",
-        ValueOption::Rxa => "<N>': kilobytes are an even decimal number from 2 to 48, such as 48",
-        ValueOption::Seed => "<N>': a seed is a decimal number below 2^64, such as 7",
-        ValueOption::Missed => "<N>': a count is a decimal number below 2^32, such as 4294967294",
-        ValueOption::Rx | ValueOption::Tx =>
-            "<N>': descriptors are a decimal number below 65536, such as 64",
-        ValueOption::Buffers => "<N>': buffers are a decimal number below 65536, such as 512",
-        ValueOption::Expect => "<N>': frames are a decimal number below 2^64, such as 100",
-        ValueOption::Idle => "<N>': calls are a decimal number below 2^64, such as 1000",
+        ValueOption::Rxa => "<N>': kilobytes are an even number in decimal digits, such as 48",
+        ValueOption::Vlan
+        | ValueOption::Seed
+        | ValueOption::Missed
+        | ValueOption::Rx
+        | ValueOption::Tx
+        | ValueOption::Buffers
+        | ValueOption::Expect
+        | ValueOption::Idle => "<N>': a number has only decimal digits, such as 5",
     }
 }

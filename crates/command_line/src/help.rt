@@ -313,8 +313,7 @@ NAME' on standard error:
                 --record couldn't be created, status 3. Check its path
   E70 Schedule  The file of --schedule isn't a schedule, or is for other options, status 1. Correct
                 it, or use the options in its first line
-  E71 Unmet     Deviations of the schedule weren't met, status 1: standard error lists them before
-                this";
+  E71 Unmet     Deviations of the schedule weren't met, status 1: standard error lists them";
 
 pub(crate) const DRIVE_ABOUT: &str = "Run the driver on an adapter that another program models";
 
@@ -375,12 +374,13 @@ Run it from the top of the repository:
 Exit status: 0 success, 1 a trace, a scenario, an image, a schedule or an answer is invalid, or
 drive ended too early, 2 usage error, help or version, 3 a file failed, 4 out of memory. If the
 status is 1, 3 or 4, nicbench prints 'nicbench: CODE NAME' on standard error, or 'nicbench: line N:
-CODE NAME' if a line of a scenario is invalid. IN is any input: of pass and drive, the TRACE of
-show, and the SCENARIO of run with each FILE that it feeds. If IN is - (not for drive), it is
-standard input, which can be read only once. Standard input and named pipes are read to their end
-first, up to 1 GiB. OUT is any output: of pass and drive, each file in the OUTDIR of run, and its
-FILE of --events. E68 and E73 are followed by the path. Codes E40 to E56 come from run only (E46
-from drive, too): nicbench run --help. For E57, E66, E67 and E68 of serve: nicbench serve --help
+CODE NAME' if a line of a scenario is invalid. Lines with an explanation may follow, such as the
+path of the file. IN is any input: of pass and drive, the TRACE of show, and the SCENARIO of run
+with each FILE that it feeds. If IN is - (not for drive), it is standard input, which can be read
+only once. Standard input and named pipes are read to their end first, up to 1 GiB. OUT is any
+output: of pass and drive, each file in the OUTDIR of run, and its FILE of --events. PATH is any of
+these paths. Codes E40 to E56 come from run only (E46 from drive, too): nicbench run --help. For
+E57, E66, E67 and E68 of serve: nicbench serve --help
 
   E57 Memory    Out of memory elsewhere than for E45, E47 and E65. Free some, or split IN
   E58 Image     The file of --image of serve doesn't have 128 bytes. Name another file
@@ -395,9 +395,8 @@ from drive, too): nicbench run --help. For E57, E66, E67 and E68 of serve: nicbe
                 editcap -F pcap -c 100000 IN OUT
   E66 Read      IN could not be read. Name a file, not a folder, or copy it to another disk
   E67 Write     OUT or standard output could not be written. Free space there
-  E68 Open      IN couldn't be opened or is a device, OUT couldn't be created, or OUTDIR doesn't
-                exist. Check the paths and permissions. Copy a part of a device to a file: head -c
-                SIZE DEVICE
+  E68 Open      PATH couldn't be opened or created, or is a device. Check the path and permissions;
+                OUTDIR must exist. Copy a part of a device to a file: head -c SIZE DEVICE
   E69 Fewer     drive ended before all frames of IN were sent and N were received. Check the
                 adapter, or use a larger --idle
   E70 Schedule  The file of --schedule of serve isn't a schedule, or is for other options. Correct
@@ -405,5 +404,5 @@ from drive, too): nicbench run --help. For E57, E66, E67 and E68 of serve: nicbe
   E71 Unmet     Deviations of the schedule of serve weren't met. Standard error lists them
   E72 Pipe      Standard input or a pipe has more than 1 GiB. Copy it to a file first, and name the
                 file
-  E73 SameFile  The FILE of --events of run is also its SCENARIO, a trace that it feeds, or a file
-                in OUTDIR that it writes. Name another FILE";
+  E73 SameFile  FILE is also SCENARIO, a trace that the run feeds, or a file that it writes in
+                OUTDIR. Name another for --events";

@@ -1,6 +1,6 @@
 //! The jobs that a command line can ask for.
 
-use pcap_bench::PassFilter;
+use receive_lane::PassFilter;
 
 /// A job of the program. As the path of an input, `-` means standard input, except for `drive` and `--schedule`. As the
 /// path of OUT of `pass` or of the file of `--events`, `-` means standard output.
@@ -121,7 +121,7 @@ pub enum ServeLink {
 
 /// An option whose value can be refused. The option has the name of the variant in lower case: `Address` is
 /// `--address`.
-#[derive(Clone, Copy)]
+#[derive(Clone, Copy, Debug)]
 pub enum ValueOption {
     Address,
     Group,

@@ -13,13 +13,13 @@ const DECIMAL: u32 = 10;
 const GROUP_BIT: u8 = 1;
 
 /// The highest VLAN identifier of 12 bits (IEEE 802.1Q 9.6).
-const HIGHEST_VLAN: u64 = 4095;
+pub(crate) const HIGHEST_VLAN: u64 = 4095;
 
 /// The smallest receive part of a packet buffer in kilobytes (manual 13.4.16, RXA).
-const LEAST_KILOBYTES: u64 = 2;
+pub(crate) const LEAST_KILOBYTES: u64 = 2;
 
 /// The greatest receive part, in kilobytes.
-const MOST_KILOBYTES: u64 = 48;
+pub(crate) const MOST_KILOBYTES: u64 = 48;
 
 /// Returns the group address that a text spells: an address whose first byte is odd, such as `01:00:5e:00:00:01`.
 /// Returns `None` for any other text, such as an individual address.

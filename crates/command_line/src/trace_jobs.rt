@@ -8,7 +8,7 @@ ghost use Rattle.command_line.specs.Spelling.{SpellsVlan};
 use crate::values::{address, flag, number, path, text};
 use crate::{Job, PassJob, RunJob, ValueOption};
 use clap::ArgMatches;
-use pcap_bench::PassFilter;
+use receive_lane::PassFilter;
 
 /// Returns the VLAN identifier of `--vlan`, or `None` if `--vlan` isn't given. Fails if the text of `--vlan` isn't a
 /// VLAN identifier.

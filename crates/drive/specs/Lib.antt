@@ -5,3 +5,4 @@ pub mod QtestLines
 pub mod QtestLaws
 pub mod QtestState
 pub mod QtestRequests
+pub mod Statuses

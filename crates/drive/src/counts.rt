@@ -2,6 +2,8 @@
 
 ghost use Rattle.std.specs.Prelude.{◌↔◌, ◌≤◌, ◌+◌, IfSome, IsTrue};
 
+use std::fmt;
+
 /// The sizes of the driver's rings, and the number of its receive buffers.
 #[derive(Clone, Copy, Debug, PartialEq, Eq)]
 pub struct DriveRings {
@@ -62,5 +64,24 @@ impl DriveCounts {
     {
         // A sum that saturates is at least `frames`, because `frames` is a `u64`.
         self.sent.saturating_add(self.illegal) >= frames && self.received >= expect.unwrap_or(0)
+    }
+}
+
+/// The text is a line without a line feed. It ends with `exact` if it counts each missed frame, and with `atleast` if
+/// more frames may have been missed.
+impl fmt::Display for DriveCounts {
+    fn fmt<W: fmt::Write>(&self, f: &mut fmt::Formatter<W>) -> fmt::Result {
+        let DriveCounts {
+            sent,
+            illegal,
+            received,
+            missed,
+            is_exact,
+        } = *self;
+        let exact = if is_exact { "exact" } else { "atleast" };
+        write!(
+            f,
+            "sent {sent} illegal {illegal} received {received} missed {missed} {exact}"
+        )
     }
 }

@@ -1,6 +1,7 @@
 // Why a drive failed.
 
 ghost use Rattle.std.specs.Prelude.{◌≡◌};
+ghost use Rattle.drive.specs.Statuses.{drive_status};
 ghost use Rattle.drive.specs.declared.drive_error.DriveError.TheVariants as errors;
 
 use crate::BusFault;
@@ -13,17 +14,31 @@ use thiserror::Error;
 #[derive(Clone, Copy, Debug, PartialEq, Eq, Error)]
 pub enum DriveError {
     /// Memory was refused.
-    #[error("out of memory")]
+    #[error("E57 Memory")]
     Memory,
-    /// The adapter wasn't initialized. Memory wasn't refused, and the bus didn't stop.
-    #[error("the adapter wasn't initialized: {0}")]
+    /// The adapter wasn't initialized, for this reason. Memory wasn't refused, and the bus didn't stop.
+    #[error("E46 Init: {0}")]
     Init(InitError),
     /// The bus stopped.
-    #[error("{0}")]
+    #[error(transparent)]
     Bus(BusFault),
     /// The sink for received frames failed.
-    #[error("the sink failed")]
+    #[error("{}", WriteError::Write)]
     Write,
+}
+
+impl DriveError {
+    /// Returns the exit status of a program that this error ends.
+    pub fn status(&self) -> u8
+        ensures { result ≡ drive_status self.now }
+    {
+        match self {
+            DriveError::Memory => 4,
+            DriveError::Init(_) => 1,
+            DriveError::Bus(fault) => fault.status(),
+            DriveError::Write => WriteError::Write.status(),
+        }
+    }
 }
 
 impl From<AllocError> for DriveError {

@@ -4,13 +4,10 @@
 ghost use Rattle.command_line.specs.Jobs.{HasBounds};
 
 use command_line::{Job, LineError, line};
-use program_jobs::{Code, Fault, run_drive, run_pass, run_scenario, run_serve, run_show};
+use program_jobs::{Fault, run_drive, run_pass, run_scenario, run_serve, run_show};
 use std::env;
 use std::io::ErrorKind;
 use std::process::ExitCode;
-
-/// The exit status if the words ask for help or the version, or are refused for another reason than memory.
-const USAGE: u8 = 2;
 
 /// Returns the words that the program was called with. Fails with `NotUnicode` if a word isn't Unicode. Each other
 /// error counts as refused memory.
@@ -25,30 +22,25 @@ fn words(rt: &HostRuntime) -> Result<Vec<String>, LineError<'static>> {
 /// Reports on standard error why the words were refused: the text of the error, or the code of refused memory. Returns
 /// the exit status, which doesn't depend on whether standard error accepts the report.
 fn refuse(rt: &HostRuntime, error: &LineError<'_>) -> ExitCode {
-    match error {
-        LineError::Memory => {
-            let _ = eprintln!(rt; "nicbench: {}", Code::E57);
-            ExitCode::from(Code::E57.status())
-        }
+    let _ = match error {
+        LineError::Memory => eprintln!(rt; "nicbench: {error}"),
         LineError::Words(_) | LineError::Value(_) | LineError::NotUnicode => {
-            let _ = eprint!(rt; "{error}");
-            ExitCode::from(USAGE)
+            eprint!(rt; "{error}")
         }
-    }
+    };
+    ExitCode::from(error.status())
 }
 
-/// Reports a fault of a job on standard error. If an input was refused or couldn't be read, also reports what the user
-/// can do. For `run`, also reports that existing files in OUTDIR are unchanged, unless a write failed. Returns the
+/// Reports a fault of a job on standard error: its code, and then what explains it, if anything. For `run`, also reports
+/// that existing files in OUTDIR are unchanged, unless a write failed. Each line begins with `nicbench: `. Returns the
 /// fault's exit status, even if standard error accepts nothing.
 fn report(rt: &HostRuntime, job: &Job<'_>, fault: &Fault) -> ExitCode {
     let _ = eprintln!(rt; "nicbench: {fault}");
-    if let Some(advice) = fault.advice(rt.alloc()) {
-        let _ = eprintln!(rt; "nicbench: {advice}");
-    }
+    fault.explain(rt);
     if matches!(job, Job::Run(_)) && fault.keeps_old_files() {
         let _ = eprintln!(rt; "nicbench: existing files in OUTDIR are unchanged");
     }
-    ExitCode::from(fault.code.status())
+    ExitCode::from(fault.status())
 }
 
 /// Does this job, and reports its fault, if any. Returns the exit status. `words` are the words of the command line

@@ -1,6 +1,2 @@
-mod Choices
-mod Lanes
 mod Passes
 mod Shown
-mod Steps
-mod Writes

@@ -6,8 +6,8 @@ use Rattle.pcap_trace.specs.Devices.{AppendsFront}
 use Rattle.pcap_trace.specs.Format.{Timed, written}
 use Rattle.pcap_trace.specs.declared.unit.Unit.{Unit}
 use Rattle.pcap_bench.specs.declared.counts.PassCounts.{PassCounts}
-use Rattle.pcap_bench.specs.declared.pass_error.PassError.{PassError}
-use Rattle.pcap_bench.specs.declared.pass_error.PassError.TheVariants.{Memory, Write}
+use Rattle.scenario_bench.specs.declared.bench_error.BenchError.{BenchError}
+use Rattle.scenario_bench.specs.declared.bench_error.BenchError.TheVariants as errors
 
 -- which padded frames a filter keeps
 abbrev pub Filter : Type 1
@@ -92,7 +92,10 @@ pub record StopsAmong (unit : Unit) (keeps : Filter) (frames : List (List ℕ)) 
   -- a beginning of the written form of the kept frames was written
   pub went : AppendsFront before after (written unit (kept_from 0 (take count frames) fates))
 
--- If memory is refused, nothing was written, and the sink counts no failure. If a write failed, the sink counts one failure more.
-abbrev pub StopsBy : PassError → Option (List ℕ) → Option (List ℕ) → ℕ → ℕ → Type 0
-StopsBy Memory before after old new = (after ≡ before) × (new ≡ old)
-StopsBy Write before after old new = new ≡ old + 1
+-- A pass has no plan and runs no events, so it ends only with these errors. If memory is refused, nothing was written, and the sink counts
+-- no failure. If a write failed, the sink counts one failure more.
+abbrev pub StopsBy : BenchError → Option (List ℕ) → Option (List ℕ) → ℕ → ℕ → Type 0
+StopsBy (errors.Plan error) before after old new = ⊥
+StopsBy (errors.Run stopped) before after old new = ⊥
+StopsBy errors.Memory before after old new = (after ≡ before) × (new ≡ old)
+StopsBy (errors.Write error) before after old new = new ≡ old + 1

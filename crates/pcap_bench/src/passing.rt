@@ -5,22 +5,21 @@ ghost use Rattle.pcap_trace.specs.Devices.{AppendsFront, CountsFailures, Grows};
 ghost use Rattle.pcap_trace.specs.Format.{file_header, packet_of};
 ghost use Rattle.rx_filter.specs.Passing.{Passes};
 ghost use Rattle.rx_filter.specs.Registers.{filter_of};
-ghost use Rattle.pcap_bench.specs.Options.{HasVlanNumber, KeptBy};
+ghost use Rattle.receive_lane.specs.Options.{HasVlanNumber, KeptBy};
 ghost use Rattle.pcap_bench.specs.Passing.{WritesKept, StopsAmong, StopsBy};
-ghost use Rattle.pcap_bench.specs.Lane.{slot_bytes, HasFrame, IsWaiting};
+ghost use Rattle.receive_lane.specs.Lane.{slot_bytes, HasFrame, IsWaiting};
 
 use crate::counts::PassCounts;
-use crate::filter::PassFilter;
-use crate::lane::ReceiveLane;
-use crate::pass_error::PassError;
 use descriptors::is_sendable;
 use pcap_trace::{RecordWriter, Sink, Trace, Unit, WriteError};
+use receive_lane::{PassFilter, ReceiveLane};
+use scenario_bench::BenchError;
 use std::alloc::Global;
 
 /// Writes the frame at the driver's slot through the writer, with this number as time. Then moves the driver to the
 /// next slot ([`offer`](ReceiveLane::offer)). The slot's descriptor must be finished, with a frame of at most 1,518
 /// bytes. If the sink fails, a beginning of the bytes that waited in the writer was written.
-fn write_received<W: Sink>(
+pub(crate) fn write_received<W: Sink>(
     lane: &mut ReceiveLane,
     writer: &mut RecordWriter,
     unit: Unit,
@@ -100,15 +99,15 @@ fn pass_frames<W: Sink>(
 ///
 /// # Errors
 ///
-/// [`Memory`](PassError::Memory) if memory is refused, before anything is written. [`Write`](PassError::Write) if the
-/// sink fails during the call; then only a beginning of the trace was written.
+/// [`Memory`](BenchError::Memory) if memory is refused, before anything is written. [`Write`](BenchError::Write) if the
+/// sink fails during the call; then only a beginning of the trace was written. Never another error.
 pub fn pass<W: Sink>(
     alloc: Global,
     trace: &Trace,
     filter: &PassFilter,
     unit: Unit,
     sink: &mut W,
-) -> Result<PassCounts, PassError>
+) -> Result<PassCounts, BenchError>
     requires countable { W.failures sink.old < u64.MAX }
     requires vlan { HasVlanNumber filter.now }
     ensures ok { IfOk result

@@ -1,2 +1,3 @@
 pub mod Adapters
 pub mod Words
+pub mod FileErrors

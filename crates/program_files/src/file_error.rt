@@ -1,30 +1,43 @@
 //! Why an input or an output can't be used.
 ghost use Rattle.std.specs.Prelude.{◌≡◌};
+ghost use Rattle.program_files.specs.FileErrors.{file_status, refused_schedule};
 ghost use Rattle.program_files.specs.declared.file_error.FileError.TheVariants as errors;
 
-use pcap_trace::ReadError;
+use pcap_trace::{ReadError, WriteError};
 use std::alloc::{AllocError, AllocFailed, Global};
 use step_schedules::ScheduleError;
+use thiserror::Error;
 
 /// Why an input or an output can't be used.
-#[derive(Drop)]
+#[derive(Debug, Drop, Error)]
 pub enum FileError {
     /// The file at this path can't be opened or created, or the program doesn't accept it, such as a device as an
     /// input.
+    #[error("E68 Open")]
     Open(String),
     /// The input at this path isn't a trace, or can't be read.
+    #[error("{0}")]
     Input(ReadError, String),
     /// Memory was refused while a trace was read.
+    #[error("{}", ReadError::Memory)]
     TraceMemory,
-    /// Standard input or a pipe has more than 1 GiB.
+    /// Standard input or a pipe has more than 1 GiB. Copy it to a file first, and name the file
+    #[error("E72 Pipe")]
     Pipe,
-    /// The file of a schedule doesn't contain a schedule.
+    /// The file of --schedule of serve isn't a schedule, or is for other options. Correct it, or use the options in its
+    /// first line
+    ///
+    /// It isn't a schedule for this reason, which isn't refused memory.
+    #[error("E70 Schedule")]
     Schedule(ScheduleError),
     /// The schedule is for an adapter with other options.
+    #[error("E70 Schedule")]
     OtherOptions,
     /// An output can't be written.
+    #[error("{}", WriteError::Write)]
     Write,
     /// Memory was refused, but not while a trace was read.
+    #[error("E57 Memory")]
     Memory,
 }
 
@@ -49,13 +62,30 @@ impl FileError {
             Err(_) => FileError::Memory,
         }
     }
+
+    /// Returns the exit status of a program that this error ends.
+    pub fn status(&self) -> u8
+        ensures { result ≡ file_status self.now }
+    {
+        match self {
+            FileError::Input(error, _) => error.status(),
+            FileError::TraceMemory => ReadError::Memory.status(),
+            FileError::Open(_) | FileError::Pipe => 3,
+            FileError::Schedule(_) | FileError::OtherOptions => 1,
+            FileError::Write => WriteError::Write.status(),
+            FileError::Memory => 4,
+        }
+    }
 }
 
 impl From<ScheduleError> for FileError {
-    ghost from_gives = { λ error e. e ≡ errors.Schedule error };
+    ghost from_gives = { λ error e. e ≡ refused_schedule error };
 
     fn from(error: ScheduleError) -> FileError {
-        FileError::Schedule(error)
+        match error {
+            ScheduleError::Memory => FileError::Memory,
+            ScheduleError::Line { .. } | ScheduleError::Text => FileError::Schedule(error),
+        }
     }
 }
 

@@ -1,7 +1,6 @@
 //! The command `drive`.
 ghost use Rattle.std.specs.Prelude.{◌<◌};
 
-use crate::codes::Code;
 use crate::fault::Fault;
 use command_line::DriveJob;
 use drive::{DriveCounts, DriveLimits, DriveRings, QtestBus, drive};
@@ -58,32 +57,21 @@ fn drive_adapter<S: Sink>(
     }
 }
 
-/// Writes the counts of a drive to standard error, because the requests are on standard output. The line ends with
-/// `exact` if it counts each missed frame, and with `atleast` if more frames may have been missed. Fails (E69) if not
-/// all `frames` frames of IN were passed to the driver, or fewer frames than expected were received.
+/// Writes the counts of a drive to standard error, because the requests are on standard output. Fails with these counts
+/// (E69), and writes nothing, if not all `frames` frames of IN were passed to the driver, or fewer frames than expected
+/// were received.
 fn report_counts(
     rt: &HostRuntime,
     job: &DriveJob<'_>,
     frames: u64,
     counts: &DriveCounts,
 ) -> Result<(), Fault> {
-    let DriveCounts {
-        sent,
-        illegal,
-        received,
-        missed,
-        is_exact,
-    } = *counts;
-    let exact = if is_exact { "exact" } else { "atleast" };
-    // A failed write to standard error isn't an error.
-    let _ = eprintln!(rt;
-        "sent {sent} illegal {illegal} received {received} missed {missed} {exact}"
-    );
-    if counts.is_complete(frames, job.expect) {
-        Ok(())
-    } else {
-        Err(Fault::of(Code::E69))
+    if !counts.is_complete(frames, job.expect) {
+        return Err(Fault::Fewer(*counts));
     }
+    // A failed write to standard error isn't an error.
+    let _ = eprintln!(rt; "{counts}");
+    Ok(())
 }
 
 /// Sends these frames, writes the received frames to the job's OUT file, and reports the counts. Fails if OUT can't be

@@ -12,7 +12,7 @@ use program_files::{
     STANDARD_STREAM, StandardError, create_all, find_folder, read_bytes, read_traces, report_play,
 };
 use scenario::Scenario;
-use scenario_bench::{Refusals, Summary, bench, print_summary};
+use scenario_bench::{Refusals, Summary, bench_with, print_summary};
 use std::io;
 
 /// Reads and parses the scenario at this path. Fails if it can't be read, or if a line is invalid.
@@ -43,7 +43,7 @@ fn play_to_sinks<W: Sink>(
     report_play(rt, traces);
     let unit = unit_of(job.nanos);
     let events = job.events.is_some();
-    match bench(
+    match bench_with(
         rt.alloc(),
         scenario,
         traces,

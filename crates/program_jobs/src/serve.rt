@@ -2,7 +2,6 @@
 ghost use Rattle.std.specs.Prelude.{◌≡◌, IfOk};
 ghost use Rattle.program_jobs.specs.Served.{IsImageFor, link_of, options_of};
 
-use crate::codes::Code;
 use crate::fault::Fault;
 use adapter_server::{ServeOptions, serve};
 use command_line::{ServeImage, ServeJob, ServeLink};
@@ -52,7 +51,7 @@ fn image_of(rt: &HostRuntime, image: ServeImage<'_>) -> Result<Image, Fault>
     let bytes = read_front(rt, path, IMAGE_BYTES as u64 + 1)?;
     match image_in(bytes.as_slice()) {
         Some(image) => Ok(image),
-        None => Err(Fault::of(Code::E58)),
+        None => Err(Fault::Image),
     }
 }
 
@@ -92,23 +91,19 @@ fn serve_input(
     }
 }
 
-/// Reports on standard error each deviation of the schedule that wasn't met: requests ended before the access or the
-/// request of the deviation. Fails (E71) if there is such a deviation.
-fn report_unmet(rt: &HostRuntime, player: &Player) -> Result<(), Fault> {
+/// Fails (E71) if a deviation of the schedule wasn't met: requests ended before the access or the request of the
+/// deviation.
+fn find_unmet(rt: &HostRuntime, player: &Player) -> Result<(), Fault> {
     let unmet = player.agenda.unmet(rt.alloc())?;
     if unmet.is_empty() {
-        return Ok(());
+        Ok(())
+    } else {
+        Err(Fault::Unmet(unmet))
     }
-    for line in unmet.lines() {
-        // The exit status shows unmet deviations even if this line can't be written.
-        let _ = eprintln!(rt; "nicbench: not met: {line}");
-    }
-    Err(Fault::of(Code::E71))
 }
 
 /// Stores the recorded schedule if there is a file for it, with the adapter's options. `words` are the words of the
-/// command line, which contain these options. If the schedule can't be stored, fails and reports nothing. Otherwise
-/// reports the deviations that weren't met, and fails (E71) if there is such a deviation.
+/// command line, which contain these options. Fails if the schedule can't be stored, or as [`find_unmet`] does.
 fn finish(
     rt: &HostRuntime,
     words: &[String],
@@ -118,7 +113,7 @@ fn finish(
     if let Some(file) = record {
         store(rt.alloc(), file, words, player)?;
     }
-    report_unmet(rt, player)
+    find_unmet(rt, player)
 }
 
 /// Opens the file for a recorded schedule, if the job names one, and serves with this player. After the last request,
@@ -138,7 +133,7 @@ fn serve_with(
 }
 
 /// Runs `serve`. `words` are the words of the program, from which the job was read. After the last request, stores a
-/// recorded schedule, and reports the deviations that weren't met.
+/// recorded schedule. Fails if deviations weren't met.
 pub fn run_serve(rt: &HostRuntime, words: &[String], job: &ServeJob<'_>) -> Result<(), Fault> {
     let options = options_of(job, image_of(rt, job.image)?);
     let player = read_player(rt, job)?;

@@ -1,5 +1,5 @@
 //! The jobs of `pass` and `show`, from their inputs to their outputs.
-ghost use Rattle.pcap_bench.specs.Options.{HasVlanNumber};
+ghost use Rattle.receive_lane.specs.Options.{HasVlanNumber};
 
 use crate::fault::Fault;
 use command_line::{PassJob, ShowJob};

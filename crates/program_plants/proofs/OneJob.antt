@@ -18,7 +18,7 @@ use Rattle.command_line.specs.Spelling.{SpellsRingSize, SpellsVlan, SpellsWord}
 use Rattle.command_line.specs.declared.job.DriveJob.{DriveJob}
 use Rattle.command_line.specs.declared.job.Job.{Job}
 use Rattle.command_line.specs.declared.job.Job.TheVariants.{Drive, Pass, Run, Show, Serve}
-use Rattle.pcap_bench.specs.declared.filter.PassFilter.{PassFilter}
+use Rattle.receive_lane.specs.declared.filter.PassFilter.{PassFilter}
 use Rattle.command_line.specs.declared.job.PassJob.{PassJob}
 use Rattle.command_line.specs.declared.job.RunJob.{RunJob}
 use Rattle.command_line.specs.declared.job.ServeImage.{ServeImage}

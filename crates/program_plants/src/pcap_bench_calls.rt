@@ -2,9 +2,9 @@
 //! so these determine what is compared.
 
 ghost use Rattle.std.specs.Prelude.{◌≡◌, ◌<◌, IfOk, IfSome, OnOk};
-ghost use Rattle.pcap_bench.specs.Options.{HasVlanNumber};
+ghost use Rattle.receive_lane.specs.Options.{HasVlanNumber};
 
-use pcap_bench::{PassCounts, PassError, PassFilter, Sink, Trace, Unit};
+use pcap_bench::{BenchError, PassCounts, PassFilter, Sink, Trace, Unit};
 use std::alloc::Global;
 
 /// Calls [`pcap_bench::pass`] twice, with two sinks of the same bytes. The contract leaves open when memory is refused,
@@ -17,7 +17,10 @@ pub fn pass<W: Sink>(
     unit: Unit,
     one: &mut W,
     other: &mut W,
-) -> (Result<PassCounts, PassError>, Result<PassCounts, PassError>)
+) -> (
+    Result<PassCounts, BenchError>,
+    Result<PassCounts, BenchError>,
+)
     requires countable { W.failures one.old < u64.MAX }
     requires taken { W.taken one.old ≡ W.taken other.old }
     requires failures { W.failures one.old ≡ W.failures other.old }

@@ -4,6 +4,8 @@
 #[cfg(test)]
 mod access_names_readme;
 #[cfg(test)]
+mod error_texts;
+#[cfg(test)]
 mod names_of_targets;
 #[cfg(test)]
 mod pci_ports;

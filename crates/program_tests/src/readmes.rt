@@ -12,7 +12,7 @@ fn the_code_of_the_readme_of_command_line(rt: HostRuntime) -> Result<(), Fail> {
     assert!(rt;
         matches!(&job, Ok(Job::Pass(job)) if job.filter.vlan == Some(5) && job.output == "out.pcap")
     );
-    let words = ["nicbench", "pass", "--vlan", "x", "in.pcap", "out.pcap"];
+    let words = ["nicbench", "pass", "--address", "x", "in.pcap", "out.pcap"];
     let refused = line(rt.alloc(), words.as_slice());
     assert!(rt; matches!(&refused, Err(LineError::Value(value)) if value.text == "x"));
     Ok(())

@@ -5,6 +5,7 @@ pub mod Laws
 pub mod Meanings
 pub mod SoFar
 pub mod Spellings
+pub mod Statuses
 pub mod Stops
 pub mod TickWords
 pub mod Words

@@ -1,6 +1,7 @@
 //! Why a text was refused.
 
 ghost use Rattle.std.specs.Prelude.{◌≡◌};
+ghost use Rattle.scenario.specs.Statuses.{refusal_status};
 ghost use Rattle.scenario.specs.declared.refusal.Stop.TheVariants as stop;
 
 use std::alloc::{AllocError, AllocFailed};
@@ -8,22 +9,34 @@ use thiserror::Error;
 
 /// The fault of a line. If a line has several faults, the first in this order is reported: [`Long`](Fault::Long),
 /// [`Text`](Fault::Text), then the others in their order below.
-#[derive(Clone, Copy, Debug, PartialEq, Eq)]
+#[derive(Clone, Copy, Debug, PartialEq, Eq, Error)]
 pub enum Fault {
-    /// The first word of the line isn't known.
+    /// The line's first word isn't in the lists above. Correct it, or put # before it
+    #[error("E50 Word")]
     Word,
-    /// The line has too few or too many words, an option without its value, or an option more than once.
+    /// There are too few or too many words, or an option twice. Compare with the list above
+    ///
+    /// An option without its value is one word too few.
+    #[error("E51 Count")]
     Count,
-    /// A word doesn't have the form for its place, or an option isn't known.
+    /// A word doesn't have its form: a decimal number, an address, an even number of up to 8000 hexadecimal digits, a
+    /// tick, an option. Compare with the list above
+    #[error("E52 Value")]
     Value,
-    /// A host that the line names isn't known, or the name of a new host is taken. Or a host has no room for another
-    /// socket, group or VLAN.
+    /// No host above has this name; or the name of a new host is taken; or a host already has 8 sockets, 32 groups or
+    /// 32 VLANs. Use the name of a host above, or remove lines
+    #[error("E53 Name")]
     Name,
-    /// A `host`, `group`, `vlan` or `socket` line comes after a command.
+    /// An event comes before this line. Move the line up
+    ///
+    /// The line is a `host`, `group`, `vlan` or `socket` line.
+    #[error("E54 Order")]
     Order,
-    /// The line has more than 8,192 bytes.
+    /// The line has more than 8192 bytes. Split it
+    #[error("E55 Long")]
     Long,
-    /// The line isn't UTF-8.
+    /// The line isn't UTF-8. Save the scenario as UTF-8
+    #[error("E56 Text")]
     Text,
 }
 
@@ -31,7 +44,7 @@ pub enum Fault {
 #[derive(Clone, Copy, Debug, PartialEq, Eq, Error)]
 pub enum Refusal {
     /// This line, numbered from 1, is the first faulty line.
-    #[error("line {line}: {fault:?}")]
+    #[error("line {line}: {fault}")]
     Line {
         /// The number of the line.
         line: usize,
@@ -39,8 +52,20 @@ pub enum Refusal {
         fault: Fault,
     },
     /// Memory was refused.
-    #[error("memory was refused")]
+    #[error("E57 Memory")]
     Memory,
+}
+
+impl Refusal {
+    /// Returns the program's exit status for this refusal.
+    pub fn status(&self) -> u8
+        ensures { result ≡ refusal_status self.now }
+    {
+        match self {
+            Refusal::Line { line: _, fault: _ } => 1,
+            Refusal::Memory => 4,
+        }
+    }
 }
 
 /// Why a line wasn't read.

@@ -6,3 +6,4 @@ pub mod WireLists
 pub mod Summaries
 pub mod Benches
 pub mod PlayedEvents
+pub mod Statuses

@@ -1,5 +1,5 @@
 //! Plays a scenario.
-ghost use Rattle.std.specs.Prelude.{◌≡◌, ◌<◌, ◌≤◌, ◌-◌, ◌∷◌, [], All, Bool, length, map, unwrap_or};
+ghost use Rattle.std.specs.Prelude.{◌≡◌, ◌<◌, ◌≤◌, ◌-◌, ◌∷◌, [], All, Bool, false, length, map, unwrap_or};
 ghost use Rattle.std.specs.Prelude.{IfErr, IfOk, OnErr, OnOk};
 ghost use Rattle.std.specs.List.{flat_map};
 ghost use Rattle.scenario.specs.SoFar.{Drains, command_of_event, hosts_of, said_of};
@@ -397,16 +397,14 @@ impl Play {
 }
 
 /// Plays a scenario: makes the network of its plan, and runs its events and drains in order. Then writes to each sink
-/// the frames that its socket returned, as a trace (libpcap, "pcap-savefile"). Last, writes to each of `wire_sinks` the
-/// frames that were put on its wire, as a trace.
+/// the frames that its socket returned, as a trace (libpcap, "pcap-savefile").
 ///
 /// The time of a frame in microseconds is the number of the frame's event or drain. The trace has this time in `unit`.
 /// Events and drains are numbered from 0; the numbers saturate at the greatest `u64`.
 ///
 /// Pass a trace for each name of [`Scenario::trace_names`], and a sink for each socket, hosts in order and the sockets
-/// of each host in order. Pass in `wire_sinks` a sink for each wire of [`wires`](crate::wires), in order, or for only
-/// the first wires, or no sinks. Each sink's count of failures must be below the greatest `u64`. If `events` is true,
-/// the summary has a line for each event and drain.
+/// of each host in order. Each sink's count of failures must be below the greatest `u64`. [`bench_with`] also writes
+/// the traces of wires, and returns a line for each event and drain.
 ///
 /// # Errors
 ///
@@ -418,9 +416,36 @@ impl Play {
 ///   this event; it saturates at the greatest `u64`.
 /// - [`Memory`](BenchError::Memory) (E57) if memory is refused for anything else.
 /// - [`Write`](BenchError::Write) (E67) if a sink failed. The sinks before this sink have their whole traces. This sink
-///   has a beginning of its own trace, and the sinks after it are unchanged. The sinks of sockets are written before
-///   those of wires.
+///   has a beginning of its own trace, and the sinks after it are unchanged.
 pub fn bench<W: Sink>(
+    alloc: Global,
+    scenario: &Scenario,
+    traces: &[Trace],
+    unit: Unit,
+    sinks: &mut [W],
+) -> Result<Summary, BenchError>
+    requires traces { length traces.now ≡ length scenario.now.traces.items }
+    requires sinks { length sinks.old ≡ length (sockets_from 0 (hosts_of scenario.now.plan.hosts.items)) }
+    requires countable { All (λ (sink : W). W.failures sink < u64.MAX) sinks.old }
+    ensures ok { IfOk result (λ summary. Benches unit scenario.now (map trace_frames traces.now) false summary
+        (sinks_of W.taken W.failures sinks.old sinks.new [] [])) }
+    ensures err { IfErr result (λ error. Stops unit scenario.now (map trace_frames traces.now) error
+        (sinks_of W.taken W.failures sinks.old sinks.new [] [])) }
+{
+    bench_with(alloc, scenario, traces, unit, sinks, &mut [], false)
+}
+
+/// Plays a scenario as [`bench`] does, and at the end also writes to each of `wire_sinks` the frames that were put on
+/// its wire, as a trace. If `events` is true, the summary has a line for each event and drain.
+///
+/// Pass the traces and the sinks of sockets as for [`bench`]. Pass in `wire_sinks` a sink for each wire of
+/// [`wires`](crate::wires), in order, or for only the first wires, or no sinks. Each sink's count of failures must be
+/// below the greatest `u64`.
+///
+/// # Errors
+///
+/// The errors of [`bench`]. The sinks of sockets are written before those of wires.
+pub fn bench_with<W: Sink>(
     alloc: Global,
     scenario: &Scenario,
     traces: &[Trace],

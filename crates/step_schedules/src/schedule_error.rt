@@ -4,76 +4,46 @@ ghost use Rattle.std.specs.Prelude.{◌≡◌};
 ghost use Rattle.step_schedules.specs.declared.schedule_error.Stop.TheVariants as stops;
 
 use std::alloc::AllocError;
-use std::error::Error;
-use std::fmt;
-
-/// What `Fault::Action` prints.
-const ACTION_TEXT: &str =
-    "no deviation: use txtake, txput, rxdata, rxdone, tx, rx, arrive, eeprom, phy, hold eeprom|phy, choose K";
+use thiserror::Error;
 
 /// The fault of a line. If several apply, the first one in this order is reported.
-#[derive(Clone, Copy, Debug, PartialEq, Eq)]
+#[derive(Clone, Copy, Debug, PartialEq, Eq, Error)]
 pub enum Fault {
     /// The line begins with `options`, but isn't the first line with words.
+    #[error("'options' must be the first line, and given once")]
     Options,
     /// The first word is neither a place nor the first word of an action.
+    #[error("no place: use ROUND.ACCESS, such as 4.6, or ROUND.0 with a round from 1")]
     Place,
     /// The words before `before` (after the place, if there is one) aren't an action.
+    #[error("no deviation: use txtake, txput, rxdata, rxdone, tx, rx, arrive, eeprom, phy, hold eeprom|phy, choose K")]
     Action,
     /// The words after `before` aren't an access, a request that begins a round, or `choose`. Or the last word has no
     /// name, or has a `#` without a number of one to nine digits after it.
+    #[error("no access or request is named: end the line with one, such as 'before read ICR' or 'before settle'")]
     Access,
     /// The action `choose K` is before an access or another request, or another action is before `choose`.
+    #[error("only 'choose K' is for 'choose', and it is for nothing else: write 'choose 2 before choose'")]
     Choice,
     /// The line has both a place and a number after `#`.
+    #[error("use either ROUND.ACCESS or a number after #")]
     PlaceAndNumber,
     /// The place is ROUND.0 before an access or `choose`, or another place before a request that begins a round.
+    #[error("before arrive, offer, step or settle, use ROUND.0; before an access or choose, count from 1")]
     RequestPlace,
     /// The line has no place, and no number of at least 1 after `#`.
+    #[error("no place and no number: begin the line with ROUND.ACCESS, or end it with a number from 1 after #")]
     NoNumber,
     /// The place is before the place of an earlier line.
+    #[error("sort the lines by place")]
     Order,
 }
 
-impl Fault {
-    /// Returns a text that states what is wrong with the line, or what to write instead.
-    fn text(self) -> &'static str {
-        match self {
-            Fault::Options => "'options' must be the first line, and given once",
-            Fault::Place => {
-                "no place: use ROUND.ACCESS, such as 4.6, or ROUND.0 with a round from 1"
-            }
-            Fault::Action => ACTION_TEXT,
-            Fault::Access => {
-                "no access or request is named: end the line with one, such as 'before read ICR' or 'before settle'"
-            }
-            Fault::Choice => {
-                "only 'choose K' is for 'choose', and it is for nothing else: write 'choose 2 before choose'"
-            }
-            Fault::PlaceAndNumber => "use either ROUND.ACCESS or a number after #",
-            Fault::RequestPlace => {
-                "before arrive, offer, step or settle, use ROUND.0; before an access or choose, count from 1"
-            }
-            Fault::NoNumber => {
-                "no place and no number: begin the line with ROUND.ACCESS, or end it with a number from 1 after #"
-            }
-            Fault::Order => "sort the lines by place",
-        }
-    }
-}
-
-impl fmt::Display for Fault {
-    fn fmt<W: fmt::Write>(&self, f: &mut fmt::Formatter<W>) -> fmt::Result {
-        f.write_str(self.text())
-    }
-}
-
-impl Error for Fault {}
-
 /// Why a text can't be read as a schedule.
-#[derive(Clone, Copy, Debug, PartialEq, Eq)]
+#[derive(Clone, Copy, Debug, PartialEq, Eq, Error)]
 pub enum ScheduleError {
     /// A line is faulty.
+    #[error("line {line}: {fault}")]
     Line {
         /// The number of the first faulty line, from 1.
         line: usize,
@@ -81,22 +51,12 @@ pub enum ScheduleError {
         fault: Fault,
     },
     /// The text isn't UTF-8.
+    #[error("the text isn't UTF-8")]
     Text,
     /// Memory was refused.
+    #[error("memory was refused")]
     Memory,
 }
-
-impl fmt::Display for ScheduleError {
-    fn fmt<W: fmt::Write>(&self, f: &mut fmt::Formatter<W>) -> fmt::Result {
-        match *self {
-            ScheduleError::Line { line, fault } => write!(f, "line {line}: {fault}"),
-            ScheduleError::Text => f.write_str("the text isn't UTF-8"),
-            ScheduleError::Memory => f.write_str("memory was refused"),
-        }
-    }
-}
-
-impl Error for ScheduleError {}
 
 /// Why a line can't be read.
 #[derive(Clone, Copy)]

@@ -1,8 +1,8 @@
 use Rattle.std.proofs.lemmas.Result.{err_from_is_err_and}
 use Rattle.rx_filter.specs.Passing.{Passes}
 use Rattle.rx_filter.specs.Registers.{filter_of}
-use Rattle.pcap_bench.specs.Options.{KeptBy}
-use Rattle.pcap_bench.proofs.Choices.{passes_kept}
+use Rattle.receive_lane.specs.Options.{KeptBy}
+use Rattle.receive_lane.proofs.Choices.{passes_kept}
 use Rattle.pcap_bench.proofs.Passes.{StopsAmong-same, StopsAmong-start, WritesKept-same}
 use Rattle.pcap_bench.proofs.passing.pass.Goals as goal
 

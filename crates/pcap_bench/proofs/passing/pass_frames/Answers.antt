@@ -6,7 +6,7 @@ use Rattle.descriptors.specs.Frames.{padded}
 use Rattle.pcap_trace.specs.Format.{packet_of}
 use Rattle.rx_filter.specs.Passing.{Passes}
 use Rattle.rx_filter.specs.Registers.{FilterRegisters, filter_of}
-use Rattle.pcap_bench.specs.Lane.{slot_bytes, IsWaiting}
+use Rattle.receive_lane.specs.Lane.{slot_bytes, IsWaiting}
 use Rattle.pcap_bench.specs.Passing.{Filter}
 use Rattle.pcap_bench.proofs.Passes.{SoFar-start, SoFar-illegal, SoFar-filtered, SoFar-kept, SoFar-stops}
 use Rattle.pcap_trace.proofs.Flushed.{Grows-none, Grows-more, header_waits}

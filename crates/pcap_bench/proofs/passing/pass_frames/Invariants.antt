@@ -3,7 +3,7 @@ use Rattle.std.specs.Io.KnownBytes.{append_known}
 use Rattle.pcap_trace.specs.Devices.{Grows}
 use Rattle.rx_filter.specs.Passing.{Passes}
 use Rattle.rx_filter.specs.Registers.{filter_of}
-use Rattle.pcap_bench.specs.Lane.{IsWaiting}
+use Rattle.receive_lane.specs.Lane.{IsWaiting}
 use Rattle.pcap_bench.proofs.Passes.{SoFar}
 use Rattle.pcap_bench.proofs.passing.pass_frames.Given as goal
 

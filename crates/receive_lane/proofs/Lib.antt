@@ -1,0 +1,4 @@
+pub mod Choices
+mod Lanes
+mod Steps
+mod Writes
