@@ -11,6 +11,7 @@ from __future__ import annotations
 import hashlib
 import io
 import os
+import re
 import shutil
 import subprocess
 import sys
@@ -24,6 +25,8 @@ from amalgamating import contents  # noqa: E402
 from packing import archive  # noqa: E402
 
 FOLDER = os.path.join(sources.TOP, "dist")
+# Without a procedure linkage table, whose slots change at first calls, and would be variables of the test
+FLAGS = ("-O2", "-fPIC", "-fno-plt", "-fno-common")
 SOURCES_OF = {sources.LIBRARY: contents.library_sources, sources.PROGRAM: contents.program_sources}
 
 
@@ -156,12 +159,13 @@ def build_library(files: dict[str, str], root: str, compiler: str, archiver: str
     lib, include = os.path.join(root, "lib"), os.path.join(root, "include")
     with tempfile.TemporaryDirectory() as work:
         code = unpack(files, work)
-        for path in (*code, "nic82540em_heap.c", "nic82540em_explore.c"):
-            run(compiler, "-O2", "-fPIC", "-c", path, cwd=work)
+        explorer = sorted(path for path in files if re.fullmatch(r"nic82540em_(explore|malloc)\.c", path))
+        for path in (*code, "nic82540em_heap.c", *explorer):
+            run(compiler, *FLAGS, "-c", path, cwd=work)
         objects = [f"{os.path.splitext(path)[0]}.o" for path in code]
         library = [name for name in objects if name.startswith(sources.LIBRARY)]
         made = {f"lib{sources.LIBRARY}.a": [*library, "nic82540em_heap.o"],
-                f"lib{sources.LIBRARY}_explore.a": [*objects, "nic82540em_explore.o"]}
+                f"lib{sources.LIBRARY}_explore.a": [*objects, *(f"{path[:-2]}.o" for path in explorer)]}
         for name, parts in made.items():
             run(archiver, "rcsD", name, *parts, cwd=work)
         shared = f"lib{sources.LIBRARY}.so"

@@ -18,6 +18,17 @@ HOOKS = os.path.join("pointers", "hooks.c")
 KNOWN = {target: f"defined(__{target}__) && !defined(__ILP32__)" for target in ("x86_64", "aarch64")}
 LINUX = "defined(__linux__)"
 ABOUT = "Made by tools/amalgamation from the C sources of the explorer, bindings/c/explore: change them there."
+# The explorer's variables, which aren't the test's, if the explorer asks for them: bindings/c/explore/build gives them
+# sections of their own, by a tool that not everybody has. Here, labels are around the sections of the file.
+VARIABLES = """\
+/* The variables of this file are between labels. */
+__asm__(%s".text");
+"""
+LABELS = """".{0}\\n.balign 4096\\n.globl __start_xi_{0}\\n.hidden __start_xi_{0}\\n__start_xi_{0}:\\n"
+        ".{0} 8000\\n.balign 4096\\n.globl __stop_xi_{0}\\n.hidden __stop_xi_{0}\\n__stop_xi_{0}:\\n"
+        """
+# A source of the explorer that defines functions of the C library. A program may be linked without it.
+APART = "malloc.c"
 WEAK = """\
 /* The explorer has another heap. Its functions are taken if a program contains both. */
 #pragma weak rattle_alloc
@@ -42,9 +53,22 @@ def assembly(text, target, others):
 def template():
     """The template of a test, which is built as the README of the amalgamation states."""
     text = read(TEMPLATE)
-    text = re.sub(r"^ \*     cc .*?\n(?= \*/)", " *     cc *.c *.S -o my_test && ./my_test --explore every\n", text,
+    text = re.sub(r"^ \*     cc .*?\n(?= \*/)", " *     cc -O2 *.c *.S -o my_test && ./my_test --explore every\n", text,
                   flags=re.M | re.S)
     return text.replace("#include <nic82540em_explore.h>", '#include "nic82540em_explore.h"')
+
+
+def explorer():
+    """The C files of the explorer."""
+    own = sorted(name for name in os.listdir(EXPLORE) if name.endswith(".c"))
+    text = one_file(EXPLORE, [name for name in own if name != APART], PUBLIC, ABOUT)
+    if "__start_xi_data" in text:
+        labels = VARIABLES % "".join(LABELS.format(section) for section in ("data", "bss"))
+        text = re.sub(r"^(?=/\* ==== )", lambda _: f"{labels}\n", text, 1, flags=re.M)
+    found = {"nic82540em_explore.c": text}
+    if APART in own:
+        found["nic82540em_malloc.c"] = one_file(EXPLORE, [APART], PUBLIC, ABOUT)
+    return found
 
 
 def page(name, version, notes):
@@ -87,7 +111,7 @@ def copies(version, notes):
     """The files of the library's amalgamation that need no toolchain, by their paths."""
     found = {name: read(os.path.join(C if name == PUBLIC[0] else EXPLORE, name)) for name in PUBLIC}
     found["nic82540em_heap.c"] = WEAK + read(os.path.join(C, "heap.c"))
-    found["nic82540em_explore.c"] = one_file(EXPLORE, PUBLIC, ABOUT)
+    found.update(explorer())
     found[HOOKS] = read(os.path.join(EXPLORE, HOOKS))
     found["my_test.c"] = template()
     found["LICENSE"] = read(os.path.join(sources.TOP, "LICENSE"))

@@ -120,25 +120,24 @@ def strip(text):
     return (OWN.sub("", SYSTEM.sub("", head)) + text[len(head):]).strip("\n")
 
 
-def one_file(folder, public, about):
-    """The sources of a folder as one text. The headers `public` are included, other headers of the folder are in the
-    text. `about` is the comment at its top.
+def one_file(folder, names, public, about):
+    """Sources of a folder as one text. The headers `public` are included, other headers of the folder are in the text.
+    `about` is the comment at its top.
     """
-    paths = sorted(name for name in os.listdir(folder) if name.endswith(".c"))
-    texts = {name: FEATURE.sub("", read(os.path.join(folder, name))) for name in paths}
+    texts = {name: FEATURE.sub("", read(os.path.join(folder, name))) for name in names}
     headers = {name: without_guard(read(os.path.join(folder, name))) for name in sorted(os.listdir(folder))
                if name.endswith(".h") and name not in public}
     every = [*texts.values(), *headers.values()]
     known = sorted({name for text in every for name in SYSTEM.findall(always(text))})
-    names = {name: Names(text) for name, text in texts.items()}
+    own = {name: Names(text) for name, text in texts.items()}
     parts = [f"/* {about} */", "#define _GNU_SOURCE", "\n".join(f'#include "{name}"' for name in public),
              "\n".join(f"#include {name}" for name in known)]
     parts += [f"/* ==== {name} ==== */\n\n{strip(text)}" for name, text in headers.items()]
     for name, text in texts.items():
         maps = []
         for kind in ("ordinary", "tags"):
-            others = {it for other in names if other != name for it in getattr(names[other], kind)}
-            shared = sorted(getattr(names[name], kind) & others)
+            others = {it for other in own if other != name for it in getattr(own[other], kind)}
+            shared = sorted(getattr(own[name], kind) & others)
             maps.append({it: f"{os.path.splitext(name)[0]}_{it}" for it in shared})
         macros = "".join(f"#undef {macro}\n" for macro in dict.fromkeys(MACRO.findall(text)))
         parts.append(f"/* ==== {name} ==== */\n\n{strip(renamed(text, *maps))}\n\n{macros}".rstrip("\n"))
