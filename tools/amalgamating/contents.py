@@ -18,8 +18,8 @@ HOOKS = os.path.join("pointers", "hooks.c")
 KNOWN = {target: f"defined(__{target}__) && !defined(__ILP32__)" for target in ("x86_64", "aarch64")}
 LINUX = "defined(__linux__)"
 ABOUT = "Made by tools/amalgamation from the C sources of the explorer, bindings/c/explore: change them there."
-# The explorer's variables, which aren't the test's, if the explorer asks for them: bindings/c/explore/build gives them
-# sections of their own, by a tool that not everybody has. Here, labels are around the sections of the file.
+# If the explorer asks where its variables are: they aren't the test's. bindings/c/explore/build moves them to other
+# sections, by a tool that not everybody has. Here, labels are around the sections of the file.
 VARIABLES = """\
 /* The variables of this file are between labels. */
 __asm__(%s".text");
