@@ -193,7 +193,7 @@ add_test(NAME invalid COMMAND package --no-such-option)
 
 
 def explorer_by_cmake(library):
-    """CMake links a test with the explorer by find_package and by PkgConfig::, with each C compiler that is there. CTest
+    """CMake links a test with the explorer by find_package and PkgConfig::, with each C compiler that is there. CTest
     runs it, and writes JUnit's form.
     """
     if not all(library.is_there(tool, "the explorer by CMake") for tool in ("cmake", "ctest", "pkg-config")):

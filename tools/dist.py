@@ -1,6 +1,7 @@
 """The folder dist: the last release for everybody who has a C compiler, as tools/amalgamation --dist has written it.
 
 usage: python3 tools/dist.py, which prints for each part of dist whether the sources have changed since
+       python3 tools/dist.py unpack PART FOLDER, which writes the files of a part (nic82540em, nicbench)
 
 This needs no toolchain. If no source has changed since, all files but the assembly must be those that the present
 sources give; otherwise the exit status is 1. That sources have changed is no fault.
@@ -25,8 +26,6 @@ from amalgamating import contents  # noqa: E402
 from packing import archive  # noqa: E402
 
 FOLDER = os.path.join(sources.TOP, "dist")
-# Without a procedure linkage table, whose slots change at first calls, and would be variables of the test
-FLAGS = ("-O2", "-fPIC", "-fno-plt", "-fno-common")
 SOURCES_OF = {sources.LIBRARY: contents.library_sources, sources.PROGRAM: contents.program_sources}
 
 
@@ -126,9 +125,9 @@ def release(part: str, is_wanted: bool, remedy: str) -> dict[str, str]:
     return files
 
 
-def run(*words: str, cwd: str) -> None:
-    ran = subprocess.run(words, cwd=cwd, stdin=subprocess.DEVNULL, stdout=subprocess.PIPE, stderr=subprocess.STDOUT,
-                         text=True, errors="replace")
+def run(*words: str, cwd: str, **env: str) -> None:
+    ran = subprocess.run(words, cwd=cwd, env={**os.environ, **env}, stdin=subprocess.DEVNULL, stdout=subprocess.PIPE,
+                         stderr=subprocess.STDOUT, text=True, errors="replace")
     if ran.returncode != 0:
         raise NoRelease(f"`{' '.join(words)}` failed:\n{ran.stdout[-2000:]}")
 
@@ -154,26 +153,26 @@ def build_program(files: dict[str, str], target: str) -> None:
     os.replace(f"{target}.new", target)
 
 
-def build_library(files: dict[str, str], root: str, compiler: str, archiver: str) -> None:
-    """Builds the library and the explorer in the folder `root`, with their headers."""
-    lib, include = os.path.join(root, "lib"), os.path.join(root, "include")
-    with tempfile.TemporaryDirectory() as work:
-        code = unpack(files, work)
-        explorer = sorted(path for path in files if re.fullmatch(r"nic82540em_(explore|malloc)\.c", path))
-        for path in (*code, "nic82540em_heap.c", *explorer):
-            run(compiler, *FLAGS, "-c", path, cwd=work)
-        objects = [f"{os.path.splitext(path)[0]}.o" for path in code]
-        library = [name for name in objects if name.startswith(sources.LIBRARY)]
-        made = {f"lib{sources.LIBRARY}.a": [*library, "nic82540em_heap.o"],
-                f"lib{sources.LIBRARY}_explore.a": [*objects, *(f"{path[:-2]}.o" for path in explorer)]}
-        for name, parts in made.items():
-            run(archiver, "rcsD", name, *parts, cwd=work)
-        shared = f"lib{sources.LIBRARY}.so"
-        run(compiler, "-shared", f"-Wl,-soname,{shared}", "-o", shared, *made[f"lib{sources.LIBRARY}.a"], cwd=work)
-        for name, folder in ((shared, lib), *((name, lib) for name in made), *((name, include)
-                                                                               for name in contents.PUBLIC)):
-            shutil.copyfile(os.path.join(work, name), os.path.join(folder, f"{name}.new"))
-            os.replace(os.path.join(folder, f"{name}.new"), os.path.join(folder, name))
+def build_library(files: dict[str, str], work: str, root: str, compiler: str, archiver: str) -> None:
+    """Unpacks a release into the folder `work`. Builds its library and its explorer in the folder `root`."""
+    code = unpack(files, work)
+    lib, bindings = os.path.join(root, "lib"), os.path.join(work, "bindings", "c")
+    for path in (*code, os.path.join(bindings, "heap.c")):
+        run(compiler, "-O2", "-fPIC", "-c", path, cwd=work)
+    objects = [f"{os.path.splitext(path)[0]}.o" for path in code]
+    library = [*(name for name in objects if name.startswith(sources.LIBRARY)), "heap.o"]
+    made = {f"lib{sources.LIBRARY}.a": library,
+            f"lib{sources.SEARCH}.a": [name for name in objects if name.startswith(sources.SEARCH)]}
+    for name, parts in made.items():
+        run(archiver, "rcsD", name, *parts, cwd=work)
+    shared, header = f"lib{sources.LIBRARY}.so", f"{sources.LIBRARY}.h"
+    run(compiler, "-shared", f"-Wl,-soname,{shared}", "-o", shared, *library, cwd=work)
+    for path, folder in ((f"lib{sources.LIBRARY}.a", lib), (shared, lib), (header, os.path.join(root, "include"))):
+        target = os.path.join(folder, path)
+        shutil.copyfile(os.path.join(work, path), f"{target}.new")
+        os.replace(f"{target}.new", target)
+    run("sh", os.path.join(bindings, "explore", "build"), root, os.path.join(work, f"lib{sources.SEARCH}.a"), cwd=work,
+        CC=compiler, AR=archiver)
 
 
 def digest(part: str) -> str:
@@ -186,8 +185,9 @@ def faults(part: str, files: dict[str, str]) -> list[str]:
     """The files of a part of dist that the present sources don't give, though no source has changed since. An unproved
     amalgamation has no place in dist.
     """
-    copies = contents.copies if part == sources.LIBRARY else contents.program_copies
-    wanted = copies(versions(files)["version"], files["VERSION"])
+    said = versions(files)["version"], files["VERSION"]
+    library = {**contents.copies(*said), **contents.apart()}
+    wanted = library if part == sources.LIBRARY else contents.program_copies(*said)
     found = {path: text for path, text in files.items() if not path.endswith(".S")}
     if "NOT" in versions(files):
         found["VERSION"] = "NOT PROVED"
@@ -211,6 +211,11 @@ def check(tell: Callable[[str], None]) -> bool:
 
 if __name__ == "__main__":
     try:
-        sys.exit(check(print))
+        if sys.argv[1:2] == ["unpack"] and len(sys.argv) == 4 and sys.argv[2] in SOURCES_OF:
+            unpack(release(sys.argv[2], True, ""), sys.argv[3])
+        elif sys.argv[1:]:
+            sys.exit(__doc__)
+        else:
+            sys.exit(check(print))
     except NoRelease as reason:
         sys.exit(str(reason))

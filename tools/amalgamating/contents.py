@@ -84,13 +84,16 @@ def generator():
     return [*own, os.path.join(sources.TOP, "LICENSE"), sources.VERSIONED]
 
 
+def bindings():
+    """The paths of the files in bindings/c, from which tools/library builds the library and the explorer."""
+    found = [os.path.join(folder, name) for folder, _, names in os.walk(C) for name in names]
+    return sorted(path for path in found if path.endswith((".c", ".h", ".in", "build")))
+
+
 def library_sources():
     """The paths of the sources of the library, the search and the explorer, and of what writes the amalgamation."""
     crates = [*sources.crates(sources.LIBRARY), *sources.crates(sources.SEARCH)]
-    own = [os.path.join(C, name) for name in ("nic82540em.h", "heap.c")]
-    inside = [name for name in (*sorted(os.listdir(EXPLORE)), HOOKS) if name.endswith((".c", ".h"))]
-    own += [os.path.join(EXPLORE, name) for name in inside]
-    return [*dict.fromkeys([*sources.all_files(crates), *own, TEMPLATE, *generator()])]
+    return [*dict.fromkeys([*sources.all_files(crates), *bindings(), TEMPLATE, *generator()])]
 
 
 def program_sources():
@@ -119,6 +122,11 @@ def copies(version, notes):
     found["VERSION"] = notes
     found[SOURCES] = list_of(library_sources())
     return found
+
+
+def apart():
+    """The files from which tools/library builds, which dist has in addition."""
+    return {os.path.relpath(path, sources.TOP): read(path) for path in bindings()}
 
 
 def program_copies(version, notes):
