@@ -1,5 +1,5 @@
-"""A finder of races between a driver and the modelled adapter (`tools/races`), and charts of scenarios
-(`tools/run_chart`).
+"""A finder of races between a driver and the modelled adapter (`tools/races`), charts of scenarios (`tools/run_chart`),
+and pages of runs (`tools/race_page`).
 """
 
 from __future__ import annotations

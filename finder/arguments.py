@@ -2,6 +2,7 @@
 
 from __future__ import annotations
 
+import errno
 import os
 import re
 from typing import Any, Dict, Iterable, Optional, Tuple, TypedDict, cast
@@ -9,7 +10,8 @@ from typing import Any, Dict, Iterable, Optional, Tuple, TypedDict, cast
 from finder.explore import Window
 from finder.jobs import MOST_JOBS, processors
 from finder.schedule import ScheduleError, place_of
-from finder.store import check
+from finder.store import check, is_folder
+from finder.terminal import WHEN
 
 TOP = os.path.dirname(os.path.dirname(os.path.abspath(__file__)))
 DEEPEST = 100  # the greatest depth of --pct
@@ -17,17 +19,18 @@ NUMBERS: Dict[str, Optional[int]] = {
     "runs": 1000, "seed": 1, "first": 800, "explore": None, "smaller": 1000, "seconds": 10, "jobs": processors(),
     "pct": None}
 TEXTS: Dict[str, Optional[str]] = {
-    "server": os.path.join(TOP, ".build", "nicbench"), "options": None, "out": None, "replay": None, "shrink": None,
-    "shard": "1/1", "from": None, "to": None, "rows": "near"}
+    "server": os.path.join(TOP, ".build", "nicbench"), "options": None, "out": None, "html": None, "replay": None,
+    "shrink": None,
+    "shard": "1/1", "from": None, "to": None, "rows": "near", "color": "auto"}
 FLAGS = ("holds", "any-access", "by-name", "reached", "json", "apart", "no-digest", "all")
 OF_SEARCH = ("explore", "pct", "all")  # options that --replay and --shrink refuse
 # The values of all options, and the window of --from and --to
 Options = TypedDict("Options", {
     "runs": int, "seed": int, "first": int, "explore": Optional[int], "smaller": int, "seconds": int, "jobs": int,
-    "pct": Optional[int], "server": str, "options": Optional[str], "out": Optional[str], "replay": Optional[str],
-    "shrink": Optional[str], "shard": Tuple[int, int], "from": Optional[str], "to": Optional[str], "rows": str,
-    "window": Window, "holds": bool, "any-access": bool, "by-name": bool, "reached": bool, "json": bool, "apart": bool,
-    "no-digest": bool, "all": bool})
+    "pct": Optional[int], "server": str, "options": Optional[str], "out": Optional[str], "html": Optional[str],
+    "replay": Optional[str], "shrink": Optional[str], "shard": Tuple[int, int], "from": Optional[str], "to":
+    Optional[str], "rows": str, "color": str, "window": Window, "holds": bool, "any-access": bool, "by-name": bool,
+    "reached": bool, "json": bool, "apart": bool, "no-digest": bool, "all": bool})
 
 
 class UsageError(Exception):
@@ -83,6 +86,8 @@ def check_values(given: dict[str, Any]) -> None:
             raise UsageError(f"--{name}: use it without --replay and --shrink")
     if given["rows"] not in ("near", "all"):
         raise UsageError("--rows: use near or all")
+    if given["color"] not in WHEN:
+        raise UsageError(f"--color: use {', '.join(WHEN[:-1])} or {WHEN[-1]}")
     given["shard"] = shard_of(given["shard"])
     given["window"] = window_of(given["from"], given["to"])
     if any(given["window"]) and given["explore"] is None:
@@ -115,10 +120,13 @@ def shard_of(text: str) -> tuple[int, int]:
     return shard
 
 
-def check_out(path: Optional[str]) -> None:
-    """Before the first run: raises UsageError if --out is given, and a run can't be stored there."""
-    try:
-        if path:
-            check(path)
-    except OSError as error:
-        raise UsageError(f"--out: {error.filename}: {error.strerror}") from None
+def check_out(given: Options) -> None:
+    """Before the first run: raises UsageError if --out or --html is given, and a run can't be stored there."""
+    for name, path in (("out", given["out"]), ("html", given["html"])):
+        try:
+            if path:
+                check(path)
+                if name == "html" and is_folder(path):
+                    raise IsADirectoryError(errno.EISDIR, os.strerror(errno.EISDIR), path)
+        except OSError as error:
+            raise UsageError(f"--{name}: {error.filename}: {error.strerror}") from None

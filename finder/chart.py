@@ -238,11 +238,16 @@ def line_of(row: ChartRow, starts: dict[str, int]) -> str:
     return line.rstrip()
 
 
-def text_chart(rows: list[ChartRow], end: str, columns: Sequence[str] = COLUMNS) -> str:
-    """The text of a chart of these rows, with this last line."""
+def lines_of(rows: list[ChartRow], columns: Sequence[str] = COLUMNS) -> list[str]:
+    """The lines of a text chart of these rows: the heading, and a line for each row."""
     heading = ChartRow(dict(zip(columns, columns)))
     starts, _ = layout([heading, *rows], columns)
-    return "".join(f"{line_of(row, starts)}\n" for row in [heading, *rows]) + f"   {end}\n"
+    return [line_of(row, starts) for row in [heading, *rows]]
+
+
+def text_chart(rows: list[ChartRow], end: str, columns: Sequence[str] = COLUMNS) -> str:
+    """The text of a chart of these rows, with this last line."""
+    return "".join(f"{line}\n" for line in [*lines_of(rows, columns), f"   {end}"])
 
 
 def chart(run: Run, is_whole: bool = False) -> str:

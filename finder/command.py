@@ -12,7 +12,7 @@ from contextlib import closing
 from typing import TYPE_CHECKING, Any, Callable, Optional, Sequence
 
 from finder.arguments import TEXTS, UsageError, arguments_of, check_out
-from finder.chart import chart, end_of
+from finder.chart import chart_of, end_of
 from finder.draw import Pct, actors_of, bound_of, drawing_of
 from finder.ends import BY_SIGNAL, Ended, Unprinted, check_output, holding, listen, prepare_output, say, tell
 from finder.explore import WHOLE, Search, explore, fails
@@ -24,8 +24,9 @@ from finder.requests import kind_of
 from finder.schedule import HOLDS, TICKS, ScheduleError, by_name, parse, text_of
 from finder.server import ServerEnded
 from finder.shrink import Shrinker
-from finder.store import store
+from finder.store import store, store_page
 from finder.target import CannotRun, Target
+from finder.terminal import NOTHING_PLAYED, chart_on, look_of
 from finder.usage import HELP
 
 if TYPE_CHECKING:
@@ -302,15 +303,19 @@ class Finder:
         return shrinker.shrink(search.found), True  # `shrink` moves or lowers the deviations here, but drops none
 
     def chart(self, run: Run) -> str:
-        """The text of a run's chart."""
-        return chart(run, self.given["rows"] == "all")
+        """The text of a run's chart. If the run has no rows, a line reports this, and another one how the run ended."""
+        if not run.rows:
+            return NOTHING_PLAYED + f"   {end_of(run)}\n"
+        rows = chart_of(run, self.given["rows"] == "all")
+        return chart_on(look_of(self.given["color"]), rows, end_of(run), not run.fault)
 
     def show(self, run: Run) -> None:
-        """Prints a run's schedule, the end of its log, and its chart; and stores the run if --out is given."""
+        """Prints a run's schedule, the end of its log, and its chart, if it has any; and stores the run for --out."""
         text = self.text_of(run)
         lines = [row.line for row in run.rows][-LOG_LINES:]
         shown = "".join(f"{line if len(line) <= LONGEST_LINE else line[:LONGEST_LINE] + '..'}\n" for line in lines)
-        self.say(f"\nThe schedule:\n{text}\nThe end of the log:\n{shown}\n{self.chart(run)}", end="")
+        log = f"\nThe schedule:\n{text}\nThe end of the log:\n{shown}\n" if run.rows else ""
+        self.say(f"{log}{self.chart(run)}", end="")
         self.store(run, text)
 
     def shown(self, run: Run) -> Sequence[Deviation]:
@@ -324,14 +329,20 @@ class Finder:
         return text_of(self.shown(run), self.target.options, [" ".join(self.target.command), end_of(run)])
 
     def store(self, run: Run, text: str) -> bool:
-        """Stores a run, if --out is given. Returns False, after a message, if the run can't be stored."""
+        """Stores a run, if --out or --html is given. Returns False, after a message, if the run can't be stored."""
         try:
             if self.given["out"]:
                 store(self.given["out"], run, text, self.given["rows"] == "all")
+            if self.given["html"]:
+                store_page(self.given["html"], " ".join(self.target.command), run, self.compared(run))
         except OSError as error:
             tell(f"races: {error.filename}: {error.strerror}")
             return False
         return True
+
+    def compared(self, run: Run) -> Run | None:
+        """The run without deviations, to which a page compares a run with deviations. Otherwise None."""
+        return self.target.play_apart((), None, False) if run.met else None
 
     def end(self, status: int) -> int:
         """Prints what the runs reached, after a search that passes or finds nothing to play, or with --reached. With
@@ -413,7 +424,7 @@ class Finder:
 
 def call(words: Sequence[str]) -> int:
     given, command = arguments_of(words)
-    check_out(given["out"])
+    check_out(given)
     options = given["options"].split() if given["options"] is not None else None
     schedule: list[Deviation] = []
     path = given["replay"] or given["shrink"]

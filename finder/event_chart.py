@@ -14,9 +14,12 @@ import sys
 from typing import NoReturn, Optional, Sequence
 
 from finder.arguments import UsageError
-from finder.chart import ChartRow, text_chart
+from finder.chart import ChartRow
 from finder.ends import BY_SIGNAL, Ended, Unprinted, listen, prepare_output, say, tell
+from finder.page.from_scenario import steps_of
+from finder.page.write import scenario_page
 from finder.svg import picture
+from finder.terminal import WHEN, chart_on, look_of
 
 MOST_ROWS = 500
 DRAWN, USAGE, UNWRITTEN = 0, 2, 3
@@ -141,7 +144,12 @@ def number_of(text: str) -> int:
 def arguments_of(words: Optional[Sequence[str]]) -> argparse.Namespace:
     parser = Parser(prog="tools/run_chart", description=__doc__, epilog=NOTE,
                     formatter_class=argparse.RawDescriptionHelpFormatter)
-    parser.add_argument("--svg", action="store_true", help="write an SVG picture in place of a text")
+    form = parser.add_mutually_exclusive_group()
+    form.add_argument("--svg", action="store_true", help="write an SVG picture in place of a text")
+    form.add_argument("--html", action="store_true",
+                      help="write a page in place of a text: step by step, where the frames are")
+    parser.add_argument("--color", choices=WHEN, default="auto",
+                        help="colors in the text: auto, by default: on a terminal")
     parser.add_argument("--from", dest="first", type=number_of, default=0, metavar="N",
                         help="the first event, 0 by default")
     parser.add_argument("--to", dest="last", type=number_of, default=sys.maxsize, metavar="N", help="the last event")
@@ -153,11 +161,22 @@ def arguments_of(words: Optional[Sequence[str]]) -> argparse.Namespace:
     return args
 
 
+def html_of(args: argparse.Namespace, log: list[str], wires: dict[str, str]) -> str:
+    """The page of the events from `first` to `last`."""
+    drawn = [number for number in (int(line.partition(" ")[0]) for line in log) if args.first <= number <= args.last]
+    steps = [one for one in steps_of(log, wires) if int(one.step.place.partition(".")[0]) in drawn]
+    return scenario_page(f"{args.scenario}: {end_of(drawn, len(log))}", steps, wires)
+
+
 def draw(args: argparse.Namespace) -> str:
     """The chart that the arguments ask for."""
     wires = wires_in(args.scenario)
-    rows, end = chart_rows(events_in(args.log, args.scenario, wires), wires, args.first, args.last)
-    return (picture if args.svg else text_chart)(rows, end, columns_of(wires))
+    log = events_in(args.log, args.scenario, wires)
+    if args.html:
+        return html_of(args, log, wires)
+    rows, end = chart_rows(log, wires, args.first, args.last)
+    columns = columns_of(wires)
+    return picture(rows, end, columns) if args.svg else chart_on(look_of(args.color), rows, end, True, columns)
 
 
 def main(words: Optional[Sequence[str]] = None) -> int:

@@ -4,9 +4,12 @@ from __future__ import annotations
 
 import errno
 import os
-from typing import TYPE_CHECKING
+from typing import TYPE_CHECKING, Optional
 
 from finder.chart import chart
+from finder.page.from_finder import of_run
+from finder.page.log import Log
+from finder.page.write import page
 from finder.svg import svg
 from finder.vcd import vcd
 
@@ -58,5 +61,15 @@ def store(path: str, run: Run, schedule: str, is_whole: bool) -> None:
         os.makedirs(path, exist_ok=True)
     texts = texts_of(run, schedule, is_whole) if is_folder(path) else {"": schedule}
     for name, text in texts.items():
-        with open(os.path.join(path, name) if name else path, "w", encoding="utf-8", errors="surrogateescape") as file:
-            file.write(text)
+        write(os.path.join(path, name) if name else path, text)
+
+
+def write(path: str, text: str) -> None:
+    with open(path, "w", encoding="utf-8", errors="surrogateescape") as file:
+        file.write(text)
+
+
+def store_page(path: str, command: str, run: Run, other: Optional[Run]) -> None:
+    """Stores the page of a run, which compares it with another run if there is one. Raises OSError."""
+    log = Log(command, of_run(run, "the schedule"), of_run(other, "without deviations") if other else None)
+    write(path, page(log))

@@ -40,8 +40,12 @@ and a chart.
   --out PATH           stores the schedule that was found or replayed in this file; if PATH is a
                        folder or ends with /, stores there schedule.txt, log.txt, chart.txt,
                        chart.svg and run.vcd (waves, for GTKWave)
+  --html FILE          stores a page of the run that was found or replayed, for a browser: rings,
+                       buffers and registers step by step, and the run without deviations
   --rows all           charts have all rows of the run. By default (near), they have those near
                        deviations and at the end
+  --color WHEN         colors in the chart: auto (default: on a terminal), always or never. On a
+                       terminal, a chart that is too wide has narrow lines
   --by-name            prints and stores the schedule without places: before read ICR#3 is before
                        the third read of ICR
   --replay FILE        plays one schedule

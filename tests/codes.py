@@ -34,15 +34,13 @@ def failure(fault: str, path: Optional[str] = None) -> bytes:
     """What the program prints on standard error for a fault. If the fault is one of an input, and its path is given, a
     second line names the path. The path of E68 or E73 is given after the name, as in `E68 Open: missing.pcap`.
     """
-    row, line = code_of(fault), fault
-    if row.code in OF_PATH:
+    row, line, explanation = code_of(fault), fault, ""
+    if row.code in OF_PATH and ": " in fault:
         line, named = fault.split(": ", 1)
-        explanation = row.text.replace(OF_PATH[row.code], quoted(named))
+        explanation = f"nicbench: {row.text.replace(OF_PATH[row.code], quoted(named))}\n"
     elif path is not None and row.code in OF_INPUT:
-        explanation = row.text.replace("IN", quoted(path))
-    else:
-        return f"nicbench: {fault}\n".encode()
-    return f"nicbench: {line}\nnicbench: {explanation}\n".encode()
+        explanation = f"nicbench: {row.text.replace('IN', quoted(path))}\n"
+    return f"nicbench: {line}\n{explanation}".encode()
 
 
 def second_lines(bench: Program) -> None:

@@ -15,6 +15,7 @@ import subprocess
 import sys
 
 from harness import TOP, Ended, Program, test_all, words_of_script
+from explorer_pages import check_lab, check_pages
 from explorer_results import RECEIVES, check_results
 
 EXPLORER, EXAMPLES = os.path.join(TOP, "bindings", "c", "explore"), os.path.join(TOP, "examples", "explore")
@@ -466,6 +467,12 @@ def results(bench):
     check_results(bench, bench.stages, ends(bench))
 
 
+def pages(bench):
+    """Pages of runs from the explorer's log (explorer_pages.py)."""
+    check_pages(bench, bench.stages)
+    check_lab(bench, os.path.join(TOP, "examples", "lab", "grade"), os.path.join(bench.folder, "nic"))
+
+
 def make(folder):
     program, given = map(os.path.abspath, words_of_script())
     bench = Explorer(program, shutil.copytree(given, os.path.join(folder, "nic")), folder)
@@ -475,7 +482,7 @@ def make(folder):
     return bench
 
 
-PARTS = (counts, bugs, all_that_fail, by_priorities, races, drawn, logs, arguments, left_behind, results, pointers,
-         rust, lab, every)
+PARTS = (counts, bugs, all_that_fail, by_priorities, races, drawn, logs, arguments, left_behind, results, pages,
+         pointers, rust, lab, every)
 
 test_all(make, PARTS)

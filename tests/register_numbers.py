@@ -3,8 +3,8 @@
 `row_of` and `IsInTable` in crates/adapter_model/specs/Table.antt are the definitions that the contracts of
 `Adapter::read` and `Adapter::write` use. This module reads them by itself, and compares them with
 
-- the tables of docs/ADAPTER.md and above the offsets in crates/adapter_model/src/offsets.rt, with the sizes of arrays and the
-  numbers in the rules of registers;
+- the tables of docs/ADAPTER.md and above the offsets in crates/adapter_model/src/offsets.rt, with the sizes of arrays
+  and the numbers in the rules of registers;
 - the constants of the code;
 - the offsets that clients and tests in other languages type by hand.
 

@@ -1,5 +1,5 @@
-"""Tests the lines of events that `nicbench run --events` writes, the warning about refused calls, and the charts of
-tools/run_chart.
+"""Tests the lines of events that `nicbench run --events` writes, the warning about refused calls, and the charts and
+pages of tools/run_chart.
 """
 
 import os
@@ -8,6 +8,8 @@ import subprocess
 import sys
 import xml.etree.ElementTree as ElementTree
 
+from finder.event_chart import events_in, wires_in
+from finder.page.from_scenario import STAGES, TAKEN, Network, steps_of
 from harness import TOP
 from pcap_files import packet, trace
 from scenarios import EXAMPLE, EXAMPLE_FRAME, EXAMPLE_LINES, TO_SOCKET, TWO_HOSTS, folder, held, refusal, warning
@@ -236,6 +238,30 @@ def charts(bench):
                 ["place", "2", "3", "Events"])
 
 
+def where_frames_are(bench):
+    """A page shows where frames are. In a random run with a reset and drains, no frame is missing where one moves. The
+    driver has taken the frames that the summary counts as given.
+    """
+    hosts = b"".join(b"host %b 02:00:00:00:00:0%d w\nsocket %b all\n" % (name, at, name)
+                     for at, name in enumerate([b"a", b"b", b"c"], 1))
+    folder(bench)
+    bench.put("s.scenario", hosts + b"auto 3000 8\nreset b\nauto 500 3\ndrain a\ndrain b\ndrain c\n")
+    ran = bench.run("run", "--events", "events.txt", "s.scenario", "outdir")
+    wires = wires_in(bench.path("s.scenario"))
+    network = Network(wires)
+    steps = list(steps_of(events_in(bench.path("events.txt"), "s.scenario", wires), wires, network))
+    bench.check("page: no frame is missing", (network.wrong, len(steps) > 3000), (0, True))
+    for line in ran.stdout.decode().splitlines():
+        host, given = line.split()[0], int(re.search(r" given (\d+)", line)[1])
+        bench.check(f"page: taken by {host}", len(network.frames[host, TAKEN]), given)
+    left = [stage for (_, stage), frames in network.frames.items() if frames]
+    bench.check("page: nothing is left to be received", [stage for stage in left if stage in STAGES[3:6]], [])
+    status, out, errors = chart(bench, "s.scenario", "events.txt", "--html", "--from", "10", "--to", "30")
+    numbers = [int(number) for number in re.findall(r"<i>(\d+)", out)]
+    bench.check("page: a part", (status, errors, min(numbers, default=0), max(numbers, default=0)), (0, "", 10, 30))
+    bench.check("page: not with a picture", chart(bench, "--html", "--svg", "s.scenario", "events.txt")[0], 2)
+
+
 def chart(bench, *words, given=b""):
     """Runs tools/run_chart in the folder of the bench. Returns its status, its output and its errors."""
     ran = subprocess.run([sys.executable, "-S", "-E", CHART, *words], cwd=bench.folder, input=given,
@@ -303,4 +329,5 @@ def all_cases(bench):
     same_files(bench)
     charts(bench)
     places(bench)
+    where_frames_are(bench)
     refused_charts(bench)

@@ -27,11 +27,6 @@ OTHER_PHY = ("PHY registers after register 3", 0)
 STATUS_BYTE, IXSM = 12, 1 << 2
 
 
-def value_of(answer):
-    """The number in an answer, or None."""
-    return int(answer[3:], 16) if isinstance(answer, str) and answer.startswith("OK 0x") else None
-
-
 def without_bits(name, ours, theirs):
     """The departures in two values of a register, and both values without the bits that show them."""
     found = []
@@ -59,16 +54,17 @@ def without_phy(ours, theirs):
 
 
 def departures_of(request, what, ours, theirs):
-    """Returns the names of the departures that a difference shows, and both sides without them."""
+    """Returns the names of the departures that a difference shows, and both sides without them. Sides that are answers
+    are numbers, if both have numbers.
+    """
     word, *rest = request.split()
     if what == "answer" and word == "readl":
-        one, other = value_of(ours), value_of(theirs)
-        if one is None or other is None:
+        if not isinstance(ours, int):
             return [], ours, theirs
-        if rest[0] == "MDIC":
-            return without_phy(one, other)
-        return without_bits(rest[0], one, other)
-    if what == "receive ring":
+        if table_of(rest[0]) == "MDIC":
+            return without_phy(ours, theirs)
+        return without_bits(rest[0], ours, theirs)
+    if what == "receive ring" and isinstance(theirs, bytes):
         one, other = without_checksum_bit(ours), without_checksum_bit(theirs)
         if (one, other) != (ours, theirs):
             return ["receive descriptor: IXSM is set"], one, other

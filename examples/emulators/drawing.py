@@ -3,7 +3,7 @@
 A request is a line. In `readl` and `writel` it names a register, as in `readl ICR`. Four requests stand for several:
 `offer N` offers up to N free receive slots. `arrive HEX` is the arrival of a frame, or no request: see
 `Session.arrives`. `send COMMAND HEX` sends a frame by a descriptor with this command byte. `transmitter VALUE` writes
-TCTL and records TXQE.
+TCTL and records TXQE. A seed doesn't draw `deliver HEX`, which always is the arrival of a frame.
 """
 
 import random

@@ -6,7 +6,9 @@ line such as `readl 0xFEB00008`; docs/REQUESTS.md lists the requests and the ans
 
 import fcntl
 import os
+import select
 import shlex
+import signal
 import socket
 import struct
 import subprocess
@@ -29,8 +31,27 @@ class Ended(Exception):
     """The emulator ended, or gave another answer than expected."""
 
 
+class Silent(Ended):
+    """The emulator didn't answer in time."""
+
+
+class Unready(Ended):
+    """The emulator answers, but its EEPROM or its link never becomes ready."""
+
+
 class Missing(Exception):
-    """The emulator isn't installed."""
+    """The emulator isn't installed, or can't be started."""
+
+
+def words_of(command):
+    """The words of a command. Raises Missing if there are none."""
+    try:
+        words = shlex.split(command)
+    except ValueError as error:
+        raise Missing(f"{command!r} isn't a command: {error}") from None
+    if not words:
+        raise Missing("the command of an emulator is empty")
+    return words
 
 
 class Emulator:
@@ -42,33 +63,68 @@ class Emulator:
 
     # The most times that something is waited for, and the most frames that arrive at once
     WAITS, MOST = 1000, 10
+    # The most bytes up to an answer
+    MOST_BYTES = 1 << 24
     # Bytes of memory that a driver may use
     memory = MEMORY
     # What to do if the program isn't there
     ADVICE = ""
+    # What messages name this emulator, and the most seconds up to an answer, if there is a limit
+    name, seconds = "the emulator", None
 
     def __init__(self, words, registers, **options):
         self.registers = registers
+        self.rest = b""  # bytes after the last line that was read
         try:
             self.process = subprocess.Popen(words, stdin=subprocess.PIPE, stdout=subprocess.PIPE, bufsize=0, **options)
         except FileNotFoundError:
             raise Missing(f"there is no {words[0]}{self.ADVICE}") from None
-        self.answers = os.fdopen(os.dup(self.process.stdout.fileno()), "r", encoding="ascii")
+        except OSError as error:
+            raise Missing(f"{words[0]} can't be started: {error.strerror}") from None
 
     def lines(self, request):
         """Sends a request, and returns the lines up to its answer."""
-        lines = []
+        lines, size = [], 0
+        end = None if self.seconds is None else time.monotonic() + self.seconds
         try:
             self.process.stdin.write(f"{request}\n".encode())
         except BrokenPipeError:
-            raise Ended(f"the emulator ended before it answered {request!r:.80}") from None
-        while True:
-            line = self.answers.readline()
-            if not line.endswith("\n"):
-                raise Ended(f"the emulator ended before it answered {request!r:.80}")
-            lines.append(line.rstrip("\n"))
-            if line.startswith(("OK", "ERR", "FAIL")):
-                return lines
+            raise self.ended(request) from None
+        while not lines or not lines[-1].startswith(("OK", "ERR", "FAIL")):
+            lines.append(self.line(request, end))
+            size += len(lines[-1])
+            if size > self.MOST_BYTES:
+                raise self.too_long(request)
+        return lines
+
+    def line(self, request, end):
+        """Returns the next line, without its end."""
+        while b"\n" not in self.rest:
+            if end is not None and not select.select([self.process.stdout], [], [], max(end - time.monotonic(), 0))[0]:
+                raise Silent(f"{self.name} didn't answer {request!r:.80} within {self.seconds:g} s")
+            data = self.process.stdout.read(1 << 16)
+            if not data:
+                raise self.ended(request)
+            self.rest += data
+            if len(self.rest) > self.MOST_BYTES:
+                raise self.too_long(request)
+        line, _, self.rest = self.rest.partition(b"\n")
+        return line.decode("ascii", "backslashreplace")
+
+    def too_long(self, request):
+        return Ended(f"{self.name} sent more than {self.MOST_BYTES:,} bytes, and no answer to {request!r:.80}")
+
+    def ended(self, request):
+        """The error that the emulator has ended before it answered a request."""
+        try:
+            status = self.process.wait(1)
+        except subprocess.TimeoutExpired:
+            return Ended(f"{self.name} closed its standard streams before it answered {request!r:.80}")
+        how = f"with exit status {status}" if status >= 0 else f"by {name_of_signal(-status)}"
+        return Ended(f"{self.name} ended {how} before it answered {request!r:.80}")
+
+    def refused(self, request, answer, wanted):
+        return Ended(f"{self.name} answered {request!r:.80} by {answer!r:.80}, and not by {wanted}")
 
     def ask(self, request):
         """Returns the answer, and the lines before it."""
@@ -78,15 +134,16 @@ class Emulator:
     def number(self, request):
         """Returns the number in the answer, and the lines before it."""
         answer, told = self.ask(request)
-        if not answer.startswith("OK 0x"):
-            raise Ended(f"{request!r:.80} was answered by {answer!r:.80}")
-        return int(answer[3:], 16), told
+        value = number_in(answer)
+        if value is None:
+            raise self.refused(request, answer, "a number such as OK 0x0")
+        return value, told
 
     def expect_ok(self, request, *others):
         """Sends a request whose answer must begin with OK, or with one of the other words."""
         answer, _ = self.ask(request)
         if not answer.startswith(("OK", *others)):
-            raise Ended(f"{request!r} was answered by {answer!r:.80}")
+            raise self.refused(request, answer, " or ".join(("OK", *others)))
 
     def patience(self):
         """Yields at each turn of waiting for something that another thread of the emulator does: often at first, and
@@ -103,7 +160,7 @@ class Emulator:
             if self.number(f"readl {self.registers + STATUS:#x}")[0] & 2:
                 return
             self.work()
-        raise Ended("the link never comes up")
+        raise Unready(f"{self.name}: the link is never up: LU, bit 1 of STATUS, isn't set")
 
     def image(self):
         """Reads the 64 words of the EEPROM."""
@@ -116,7 +173,7 @@ class Emulator:
             value = self.number(f"readl {self.registers + EERD:#x}")[0]
             if value & 0x10:
                 return value >> 16
-        raise Ended("the EEPROM doesn't answer")
+        raise Unready(f"{self.name}: the EEPROM doesn't answer: after a write of EERD, DONE, bit 4, isn't set")
 
     def deliver(self, frames):
         """Lets the first of these frames arrive, at most MOST, for which the ring has free slots, and removes them. A
@@ -131,20 +188,39 @@ class Emulator:
             some.append(frames.popleft())
         return told + more + last + (self.arrive_all(some) if some else [])
 
-    def close(self):
+    def kill(self):
         self.process.kill()
+
+    def close(self):
+        self.kill()
         self.process.wait()
         self.process.stdin.close()
         self.process.stdout.close()
-        self.answers.close()
+
+
+def number_in(answer):
+    """The number in an answer, or None."""
+    try:
+        return int(answer[3:], 16) if answer.startswith("OK 0x") else None
+    except ValueError:
+        return None
+
+
+def name_of_signal(number):
+    try:
+        return signal.Signals(number).name
+    except ValueError:
+        return f"signal {number}"
 
 
 class Serve(Emulator):
     """The adapter of `nicbench serve`. It takes steps when it is asked to, and random ones with `interleave`."""
 
+    name = "nicbench serve"
+
     def __init__(self, program, seed=0, interleave=0, registers=0xFEB00000, image=None, memory=MEMORY):
         self.memory = memory
-        words = shlex.split(program) + ["serve", "--memory", str(memory), "--registers", hex(registers), "--seed",
+        words = words_of(program) + ["serve", "--memory", str(memory), "--registers", hex(registers), "--seed",
                                         str(seed)]
         if image is None:
             super().__init__(words + ["--address", ADDRESS], registers)
@@ -182,12 +258,26 @@ class Other(Emulator):
     """A program that answers the requests of `nicbench serve`: `readl`, `writel`, `read`, `write`, `memset` and
     `arrive`.
 
-    It needn't know `settle` if its adapter does its work at once, nor `events` if it always reports frames.
+    It needn't know `settle` if its adapter does its work at once, nor `events` if it always reports frames. Each answer
+    may take some seconds. When it is closed, the processes that it has started are ended, too.
     """
 
-    def __init__(self, command, registers):
-        super().__init__(shlex.split(command), registers)
-        self.expect_ok("events on", "FAIL")
+    name, MOST_BYTES = "the other emulator", 1 << 20
+
+    def __init__(self, command, registers, seconds=None):
+        self.seconds = seconds
+        super().__init__(words_of(command), registers, start_new_session=True)
+        try:
+            self.expect_ok("events on", "FAIL")
+        except BaseException:
+            self.close()
+            raise
+
+    def kill(self):
+        try:
+            os.killpg(self.process.pid, signal.SIGKILL)
+        except ProcessLookupError:
+            pass  # all of them have ended
 
     def arrive(self, frame):
         answer, told = self.ask(f"arrive {frame.hex()}")
@@ -204,7 +294,7 @@ class Qemu(Emulator):
     a write of RCTL the script lets a second of virtual time pass, in which the adapter doesn't receive.
     """
 
-    ADVICE = "; on Debian: apt-get install qemu-system-x86"
+    ADVICE, name, seconds = "; on Debian: apt-get install qemu-system-x86", "QEMU", 60
     # The interrupt of the device, on the interrupt controller whose inputs are reported
     INTERRUPT = 11
     # The nanoseconds for which reception is held back after a write of RCTL, and some more
@@ -217,7 +307,7 @@ class Qemu(Emulator):
             file.write(ROM)
         self.wire, theirs = socket.socketpair(socket.AF_UNIX, socket.SOCK_DGRAM)
         self.wire.setblocking(False)
-        words = shlex.split(program) + [
+        words = words_of(program) + [
             "-nodefaults", "-machine", "pc", *WORDS, "-m", "64M", "-bios", rom, "-display", "none", "-qtest", "stdio",
             "-qtest-log", "/dev/null", "-netdev", f"dgram,id=net,local.type=fd,local.str={theirs.fileno()}",
             "-device", f"e1000,mac={ADDRESS},mitigation=off,netdev=net"]
@@ -225,8 +315,12 @@ class Qemu(Emulator):
         with open(os.path.join(self.folder.name, "errors"), "wb") as errors:
             super().__init__(words, registers, pass_fds=[theirs.fileno()], stderr=errors)
         theirs.close()
-        self.time = VirtualTime(self.lines)
-        self.set_up()
+        try:
+            self.time = VirtualTime(self.lines)
+            self.set_up()
+        except BaseException:
+            self.close()
+            raise
 
     def ask(self, request):
         """Returns the answer, and the lines before it without those of other interrupts. After a write, adds the lines
@@ -271,7 +365,9 @@ class Qemu(Emulator):
 
     def set_up(self):
         """Finds the device on the bus, sets its address, lets it use the bus, and has its interrupt reported."""
-        device = next(number for number in range(32) if self.configuration(number, 0) == 0x100E8086)
+        device = next((number for number in range(32) if self.configuration(number, 0) == 0x100E8086), None)
+        if device is None:
+            raise Ended(f"{self.name} has no e1000 on its bus")
         self.configure(1, 0x60, self.INTERRUPT * 0x01010101)  # the four interrupts of the bus
         self.configure(device, 0x10, self.registers)
         self.configure(device, 4, 6)  # memory, bus master

@@ -4,8 +4,9 @@
 usage: qemu.py [--on qemu|serve] [--nicbench PROGRAM] [--qemu PROGRAM] [--frames N] [--seed N] [--log FILE]
 
 The driver sends N frames of 60 to 1,518 bytes, drawn by the seed, while N other frames arrive. The exit status is 1 if
-the driver's program fails, or a frame is lost, changed or out of order on either way. It is 2 if the emulator isn't
-installed. With `--on serve` the adapter is that of `nicbench serve`, which takes random steps before each access.
+the driver's program or the emulator fails. It is also 1 if a frame is lost, changed or out of order on either way. It
+is 2 if the emulator isn't installed, or a file can't be opened. With `--on serve` the adapter is that of `nicbench
+serve`, which takes random steps before each access.
 """
 
 import argparse
@@ -17,12 +18,14 @@ import sys
 import tempfile
 import time
 from collections import deque
+from contextlib import ExitStack, closing
 
 sys.dont_write_bytecode = True
 HERE = os.path.dirname(os.path.abspath(__file__))
 sys.path.insert(0, HERE)
 
-from emulators import ICR, Missing, Qemu, Serve  # noqa: E402
+from emulators import ICR, Ended, Missing, Qemu, Serve  # noqa: E402
+from qemu_clock import StoodStill  # noqa: E402
 from traces import read_trace, write_trace  # noqa: E402
 
 PROGRAM = os.path.join(HERE, "..", "..", "nicbench")
@@ -102,17 +105,14 @@ def run(words, folder):
     sent, received = (os.path.join(folder, name) for name in ("send.pcap", "receive.pcap"))
     write_trace(sent, to_send)
     wire = Wire(arriving)
-    emulator = Qemu(words.qemu) if words.on == "qemu" else Serve(words.nicbench, words.seed, STEPS)
     begun = time.monotonic()
-    log = open(words.log, "w", encoding="ascii") if words.log else None
-    try:
+    with ExitStack() as stack:
+        log = stack.enter_context(open(words.log, "w", encoding="ascii")) if words.log else None
+        emulator = stack.enter_context(closing(Qemu(words.qemu) if words.on == "qemu" else
+                                               Serve(words.nicbench, words.seed, STEPS)))
         status, errors, count = drive(words.nicbench,
                                       ["--send", sent, "--receive", received, "--expect", str(words.frames)], emulator,
                                       wire, log)
-    finally:
-        emulator.close()
-        if log:
-            log.close()
     print(f"{words.on}: {count} requests in {time.monotonic() - begun:.1f} s; the driver's program: "
           f"{errors.strip() or 'nothing'}")
     if status:
@@ -126,9 +126,14 @@ def main():
     try:
         with tempfile.TemporaryDirectory() as folder:
             return 0 if run(words, folder) else 1
+    except (Ended, StoodStill) as error:
+        print(f"qemu.py: {error}", file=sys.stderr)
+        return 1
     except Missing as error:
         print(f"qemu.py: {error}", file=sys.stderr)
-        return 2
+    except OSError as error:
+        print(f"qemu.py: {error.filename}: {error.strerror}", file=sys.stderr)
+    return 2
 
 
 if __name__ == "__main__":

@@ -22,5 +22,13 @@ def offset_of(word):
 
 
 def table_of(name):
-    """The name of a register without its index."""
-    return name.split("(")[0]
+    """The name of a register without its index. A number is replaced by the name of the register at this offset."""
+    return NAMES.get(number_of(name), name).split("(")[0]
+
+
+def number_of(word):
+    """The number in a word, or None."""
+    try:
+        return int(word, 0)
+    except ValueError:
+        return None

@@ -25,7 +25,8 @@ FIRST = [
     "writel TDH 0", "writel TDT 0",
     "writel RCTL 0x04008002", "writel TCTL 0x400fa", "readl MPC", "readl GPRC", "readl GPTC", "readl RNBC", "readl ICR"]
 # After these requests the rings and buffers are compared.
-MOVING = ("writel RDT", "writel TDT", "arrive")
+MOVING = ("writel RDT", "writel TDT", "arrive", "deliver")
+ORDER = "order of frames and interrupts"
 
 
 class Seen:
@@ -39,32 +40,50 @@ class Seen:
             "interrupt line": [line for line in told if line.startswith("IRQ")], **memory}
 
 
-class Session:
-    """An emulator that does requests, with the link up and rings without offered slots."""
+def bytes_in(answer, size):
+    """The bytes in an answer to `read`, or the answer itself if it doesn't have them."""
+    try:
+        found = bytes.fromhex(answer[5:]) if answer.startswith("OK 0x") else b""
+    except ValueError:
+        return answer
+    return found if len(found) == size else answer
 
-    def __init__(self, emulator):
-        self.emulator = emulator
+
+class Session:
+    """An emulator that does requests, with the link up and rings without offered slots.
+
+    With `has_link` False, nothing waits for the link. With `has_order`, the order of frames and of changes of the
+    interrupt line is seen, too.
+    """
+
+    def __init__(self, emulator, has_link=True, has_order=False):
+        self.emulator, self.has_link, self.has_order = emulator, has_link, has_order
         for request in FIRST:
             self.plain(request)
 
     def memory(self):
-        return {name: bytes.fromhex(self.emulator.ask(f"read {address:#x} {size:#x}")[0][5:])
+        return {name: bytes_in(self.emulator.ask(f"read {address:#x} {size:#x}")[0], size)
                 for name, (address, size) in AREAS.items()}
 
     def plain(self, request):
         """Does one request, lets the adapter do its work, and returns what was seen."""
         word, *rest = request.split()
         if word == "link":
-            self.emulator.await_link()
+            if self.has_link:
+                self.emulator.await_link()
             return Seen(request, "OK", [], {})
-        if word == "arrive":
+        if word in ("arrive", "deliver"):
             answer, told = "OK", self.emulator.arrive(bytes.fromhex(rest[0]))[1]
         else:
             if word in ("readl", "writel"):
                 rest[0] = hex(self.emulator.registers + offset_of(rest[0]))
             answer, told = self.emulator.ask(" ".join([word, *rest]))
         told = told + self.emulator.work()
-        return Seen(request, answer, told, self.memory() if request.startswith(MOVING) else {})
+        more = self.memory() if request.startswith(MOVING) else {}
+        if self.has_order:
+            more[ORDER] = [" ".join(line.split()[:2 if line.startswith("IRQ") else 1]) for line in told
+                           if line.startswith(("frame", "IRQ"))]
+        return Seen(request, answer, told, more)
 
     def value(self, name):
         """Reads a register that a read doesn't change."""
@@ -99,7 +118,7 @@ class Session:
 
     def arrives(self, frame):
         """Yields the arrival of a frame, if the ring has room for it, and QEMU doesn't find its address in the group
-        table.
+        table. The request `deliver` is an arrival in any case.
         """
         rctl = self.value("RCTL")
         slots = -(-len(frame) // 2 // SIZES[rctl >> 16 & 3])

@@ -266,10 +266,11 @@ def drawn(server):
     once = [without_rate(find(server, "--first", "0", "--runs", "40", "--seed", seed, command=["sh", "small"])[1])
             for seed in ("1", "1", "2")]
     server.check("drawn: a seed decides", (once[0] == once[1], once[0].startswith("40 runs, ")), (True, True))
+    status, out, errors = find(server, command=["sh", "-c", ASK + 'ask "readl 0"; exit 7'])
     server.check("drawn: no more than two runs of a test that fails by itself",
-                 without_rate(find(server, command=["sh", "-c", "exit 7"])[1]).splitlines()[:4],
-                 ["depth 0: schedule 1 fails: exit status 7",
-                  "no race: the test fails by itself, without any deviation", "", "The schedule:"])
+                 (status, without_rate(out).splitlines()[:4], errors),
+                 (FOUND, ["depth 0: schedule 1 fails: exit status 7",
+                          "no race: the test fails by itself, without any deviation", "", "The schedule:"], ""))
 
 
 def holds(server):

@@ -264,7 +264,8 @@ def outputs(server):
     for name, python, command, wanted in [
         ("ASCII", [sys.executable, "-S"], ["sh", "-c", "echo caf\u00e9 >&2; exit 1"],
          b"depth 0: schedule 1 fails: exit status 1: caf\\xe9\n"),
-        ("a byte that isn't UTF-8", FINDER[:-1], ["sh", "-c", "exit 1", b"\xff"], b"\n# sh -c exit 1 \\udcff\n"),
+        ("a byte that isn't UTF-8", FINDER[:-1], ["sh", "-c", "echo readl 0; exit 1", b"\xff"],
+         b"\n# sh -c echo readl 0; exit 1 \\udcff\n"),
     ]:
         status, out, told = ran(server, ["--runs", "2"], command, python=python, env={"PYTHONIOENCODING": "ascii"})
         server.check(f"outputs: {name}", (status, wanted in out, told), (FOUND, True, b""))

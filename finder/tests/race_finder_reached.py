@@ -5,10 +5,13 @@ before which requests deviations were played.
 import re
 import subprocess
 
-from race_finder import ARRIVES, EXCHANGE, FOUND, FRAME, PASSES, find, replay
+from race_finder import ARRIVES, ASK, EXCHANGE, FOUND, FRAME, PASSES, find, replay
 from race_finder_output import script
 from race_finder_runs import BEGIN, STAGED
 from server import LIMIT, lines
+
+BY_ITSELF = "no race: the test fails by itself, without any deviation"
+UNPLAYED = "nothing was played: the test made no access to a register or to memory, no step and no arrival"
 
 # Acknowledges RXT0, and then reads ICR and RDH by two requests that are sent at once. Fails if a frame is finished
 # between the acknowledgement and the read of ICR.
@@ -117,6 +120,29 @@ def commute(server):
     server.check("commute: the same runs", got, (0, "True True\n" * 4, ""))
 
 
+def unplayed(server):
+    """If a test fails and has made no access, no step and no arrival, a line reports this, in place of a chart without
+    rows. The schedule is stored.
+    """
+    server.put("empty", b"")
+    for words in ([], ["--explore", "1"], ["--runs", "2", "--all"], ["--shrink", "empty"]):
+        status, out, errors = find(server, *words, "--out", "nothing", command=["false"])
+        server.check(f"unplayed: {words}", (status, out.splitlines()[-3:], "place" in out, errors),
+                     (FOUND, [BY_ITSELF, UNPLAYED, "   exit status 1"], False, ""))
+        server.check(f"unplayed: {words}: what is stored", server.get("nothing"), b"# false\n# exit status 1\n")
+        server.remove("nothing")
+    for command, end in (["false"], "exit status 1"), (["true"], "The test passes."):
+        status, out, errors = find(server, "--replay", "empty", command=command)
+        server.check(f"unplayed: a replay of {command}", (status, out, errors),
+                     (FOUND if command == ["false"] else PASSES, f"{UNPLAYED}\n   {end}\n", ""))
+    for request in "line", "outl 0xCF8 0x80000000", f"offer {FRAME}":
+        out = find(server, command=["sh", "-c", ASK + f'ask "{request}"; exit 1'])[1]
+        server.check(f"unplayed: {request:.20}", out.splitlines()[-2:], [UNPLAYED, "   exit status 1"])
+    for request in "readl 0xFEB00008", "memset 0 4 1", "choose 3", f"arrive {FRAME}", "step phy", "settle":
+        out = find(server, command=["sh", "-c", ASK + f'ask "{request}"; exit 1'])[1]
+        server.check(f"played: {request:.20}", (UNPLAYED in out, "  place  driver" in out), (False, True))
+
+
 def all_cases(server):
-    for part in [at_once, kept, played, commute]:
+    for part in [at_once, kept, played, unplayed, commute]:
         part(server)

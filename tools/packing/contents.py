@@ -11,7 +11,8 @@ from page_maker.command import MARK, make_site
 
 NAME = sources.LIBRARY
 FOLDERS = ("docs", "examples", "machines", "bench", "bindings", "crates", "finder")
-FILES = ("README.md", "CHANGELOG.md", "LICENSE", os.path.join("tools", "races"), os.path.join("tools", "run_chart"))
+FILES = ("README.md", "CHANGELOG.md", "LICENSE",
+         *(os.path.join("tools", name) for name in ("races", "race_page", "run_chart", "to_pcap")))
 # The site of tools/pages
 SITE = os.path.join("share", "doc", "nicbench", "site")
 # The pages show the command `./nicbench --build`. In a release, the program is built already.
@@ -97,7 +98,7 @@ def control(version, maintainer):
     return {
         "Package": "nicbench", "Version": version, "Architecture": "amd64", "Maintainer": maintainer,
         "Section": "devel", "Priority": "optional", "Depends": "libc6 (>= 2.34), python3 (>= 3.8)",
-        "Suggests": "gcc, pkg-config, qemu-system-x86",
+        "Suggests": "gcc, pkg-config, qemu-system-x86, wireshark-common",
         "Description": "test bench for drivers of the Intel 82540EM\n"
                        " A model of the adapter, a finder of races between a driver and the adapter, a\n"
                        " library of the model for C, and a proved driver. The pages are in\n"

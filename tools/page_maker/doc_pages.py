@@ -14,10 +14,19 @@ from .texts import first_sentence
 PATTERNS = ["README.md", "CHANGELOG.md", "docs/*.md", "crates/*/README.md", "examples/*.md", "examples/*/README.md",
             "bench/README.md", "finder/README.md", "machines/README.md"]
 EDITS = "docs/EDITS.md"
-# What the first page shows of README: from the paragraph that begins in this way to the end of its section.
-LIMITS = "The proofs hold only"
+# What the first page shows of README: the first paragraph, and from the paragraphs that begin in these ways to the ends
+# of their sections.
+FIRST, BEGIN, READ, LIMITS = ("nicbench is a test bench", "[RACES](docs/RACES.md#test-your-own-driver", "| To | Read |",
+                              "The proofs hold only")
+# A table of contents is on each page with at least this many headings.
+MOST_WITHOUT_CONTENTS = 6
+# Pages of HTML, which are copied to the site
+COPIED = "docs/*.html"
 # The search finds a heading or the first cell of a row only if it has at most this many characters.
 LONGEST_FOUND = 60
+# What the search leaves out of a text: the addresses of links, and marks
+MARKS = re.compile(r"\]\([^)\s]*\)|[`*|\[]")
+HEADINGS = re.compile(r'<h([23]) id="([^"]*)">(.*?)</h[23]>')
 
 
 def address(path: str) -> str:
@@ -34,6 +43,7 @@ class DocPages:
         self.paths = [path for pattern in PATTERNS
                       for path in sorted(os.path.relpath(one, root) for one in glob.glob(os.path.join(root, pattern)))]
         self.texts = {path: self.read(path) for path in self.paths}
+        self.copied = sorted(os.path.relpath(one, root) for one in glob.glob(os.path.join(root, COPIED)))
         self.modules = {os.path.relpath(one.file, root): one for one in self.repository.own()}
 
     def read(self, path: str) -> str:
@@ -47,6 +57,8 @@ class DocPages:
         """The address of what a link to a file or a folder leads to; empty if it isn't on the site."""
         if path in self.texts:
             return address(path)
+        if path in self.copied:
+            return path
         inside = os.path.join(path, "README.md")
         if re.fullmatch(r"crates/\w+", path) and path.split("/")[1] in self.repository.crates:
             return f"{path.split('/')[1]}/index.html"
@@ -146,7 +158,8 @@ class DocPages:
         """Makes all pages, and the list of them."""
         for path in self.paths:
             page = Page(address(path))
-            body = f'<article class="page">{self.html_of(page, path, self.texts[path])}</article>'
+            shown = self.with_contents(self.html_of(page, path, self.texts[path]))
+            body = f'<article class="page">{shown}</article>'
             body = re.sub(r'<img src="(?!\w+:)', self.picture(page, path), body)
             crumbs = [(HOME, "index.html")]
             if path.startswith("crates/"):
@@ -154,7 +167,21 @@ class DocPages:
             else:
                 crumbs.append(("pages", "pages.html"))
             self.site.write(page, self.title(path), crumbs + [(os.path.basename(path), None)], body)
+        for path in self.copied:
+            os.makedirs(os.path.join(self.site.out, os.path.dirname(path)), exist_ok=True)
+            shutil.copyfile(os.path.join(self.repository.root, path), os.path.join(self.site.out, path))
         self.list_page()
+
+    def with_contents(self, shown: str) -> str:
+        """A page with a table of contents below its title, if the page is long."""
+        found = HEADINGS.findall(shown)
+        if len(found) < MOST_WITHOUT_CONTENTS:
+            return shown
+        items = "".join(f'<li class="l{level}"><a href="#{place}">{re.sub("</?a[^>]*>", "", said)}</a></li>'
+                        for level, place, said in found)
+        contents = f'<details class="contents" open><summary>Contents</summary><ul>{items}</ul></details>'
+        head, end, rest = shown.partition("</h1>")
+        return head + end + contents + rest if end else contents + shown
 
     def picture(self, page, path: str) -> str:
         """Copies the pictures of a page to the site. Returns the beginning of a picture's tag, with the way from the
@@ -181,10 +208,27 @@ class DocPages:
         self.site.write(page, "Pages", [(HOME, "index.html"), ("pages", None)],
                         f'<h1>Pages</h1><dl class="crates">{"".join(rows)}</dl>')
 
-    def limits(self, page) -> str:
-        """What isn't proved: README from the paragraph LIMITS to the end of its section."""
-        begin = self.texts["README.md"].index(LIMITS)
-        return self.html_of(page, "README.md", self.texts["README.md"][begin:].partition("\n## ")[0])
+    def part(self, page, begin: str, end: str = "\n## ") -> str:
+        """README from one text to another one: by default, to the end of the section."""
+        text = self.texts["README.md"]
+        return self.html_of(page, "README.md", text[text.index(begin):].partition(end)[0])
+
+    def paragraphs(self) -> list[tuple[str, str, str]]:
+        """The texts in which the search looks: for each section of a page, its address, the page, and its words."""
+        rows = []
+        for path in self.paths:
+            url, lines, is_code = address(path), [], False
+            for line in [*COMMENT.sub("", self.texts[path]).split("\n"), "# "]:
+                is_code ^= line.startswith("```")
+                heading = None if is_code else HEADING.match(line)
+                if not heading:
+                    lines.append(line)
+                    continue
+                text = " ".join(MARKS.sub(" ", "\n".join(lines)).split())
+                if text:
+                    rows.append((url, path.removesuffix(".md"), text))
+                lines, url = [heading[2]], f"{address(path)}#{anchor(heading[2])}"
+        return rows
 
 
 def edits_link(page, heading: str, shown: str) -> str:

@@ -5,9 +5,17 @@ import json
 import re
 
 from .definitions import KINDS
+from .doc_pages import BEGIN, FIRST, LIMITS, READ
 from .notation import read_notation, table_rows
 from .site import HOME, NOTATION, Page
 from .texts import first_paragraph, first_sentence
+
+# The example of a page of a run, and texts of the first page
+RACE = "docs/race.html"
+BEGIN_TEXT = ('<p>In <a href="docs/STABLE.html#releases">a release</a>, no toolchain is needed, and the command below'
+              " takes less than a minute.</p>")
+RACE_TEXT = (f'This is <a href="{RACE}">the page</a> that the command above stores: click on a step, or press the'
+             " arrow keys. It begins at the step that loses frame 1.")
 
 
 def one_line(tokens: list) -> list:
@@ -107,20 +115,26 @@ class OverviewPages:
     # The first page
 
     def first_page(self, statements: list, docs):
-        """Writes the first page: the statements, what isn't proved, the pages, and the crates by layer. A statement is
-        an address, a call, a title and a number of definitions.
+        """Writes the first page: how to begin, a race to step through, the pages, the statements, what isn't proved,
+        and the crates by layer. A statement is an address, a call, a title and a number of definitions.
         """
         page = Page("index.html")
-        body = ['<h1>nicbench</h1><p class="sentence">A driver, a model of the Intel 82540EM, and networks of them. '
-                "Every function is proved. Each word of a contract here is a link to its definition.</p>",
+        first, begin = docs.part(page, FIRST, "\n\n"), docs.part(page, BEGIN)
+        read = docs.part(page, READ, "\n\n")
+        body = [f'<h1>nicbench</h1><div class="sentence">{first}</div>',
+                f'<h2 id="begin">Begin here: test a driver</h2><div class="page">{BEGIN_TEXT}{begin}</div>',
+                f'<h2 id="race">A race, step by step</h2><p class="intro">{RACE_TEXT}</p>',
+                f'<iframe class="race" src="{RACE}" title="A race, step by step" loading="lazy"></iframe>',
+                f'<h2 id="read">What to read</h2><div class="page">{read}</div>',
                 f'<p class="toc">{self.page_links(page, docs)}</p>',
-                "<h2>Statements</h2>", '<div class="cards">']
+                '<h2 id="proved">What is proved</h2><p class="intro">Every function is proved. Each word of a contract'
+                " is a link to its definition.</p>", '<div class="cards">']
         for url, function, title, count in statements:
             plain = re.sub(r"\[([^\]]*)\](\([^)]*\))?", r"\1", first_paragraph(function.comment))
             said = re.sub(r"`([^`]*)`", r"<code>\1</code>", html.escape(plain))
             body.append(f'<a class="card" href="{url}"><b>{html.escape(title)}</b><p>{said}</p>'
                         f"<small>{html.escape(function.full())} · {count} definitions</small></a>")
-        limits = f'<div class="intro page">{docs.limits(page)}</div>'
+        limits = f'<div class="intro page">{docs.part(page, LIMITS)}</div>'
         body.append(f"</div><h2>What isn't proved</h2>{limits}<h2>Crates</h2>")
         for layer, crates in self.repository.layers:
             body.append(f"<h3>{html.escape(layer)}</h3>" if layer else "")
@@ -169,3 +183,5 @@ class OverviewPages:
         self.site.write(page, "Names", [(HOME, "index.html"), ("names", None)], body)
         names = json.dumps(rows + docs.sections(), ensure_ascii=False, separators=(",", ":"))
         self.site.store("names.js", f"found({names});\n")
+        texts = json.dumps(docs.paragraphs(), ensure_ascii=False, separators=(",", ":"))
+        self.site.store("texts.js", f"foundTexts({texts});\n")

@@ -137,7 +137,8 @@ class Repository:
         while len(parts) > 2 and parts[0] in self.crates and parts[1] == "specs":
             if parts[0] not in self.passed:
                 lib = self.modules.get(f"{parts[0]}.specs.Lib")
-                self.passed[parts[0]] = {name or last: path for path, last, name in PASSED.findall(lib.text if lib else "")}
+                found = PASSED.findall(lib.text if lib else "")
+                self.passed[parts[0]] = {name or last: path for path, last, name in found}
             whole = self.passed[parts[0]].get(parts[2])
             if whole is None:
                 break

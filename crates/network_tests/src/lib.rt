@@ -19,6 +19,8 @@ mod driver_readme;
 #[cfg(test)]
 mod eeprom_readme;
 #[cfg(test)]
+mod error_texts;
+#[cfg(test)]
 mod logs;
 #[cfg(test)]
 mod mdic_phy_readme;

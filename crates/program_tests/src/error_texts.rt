@@ -1,5 +1,6 @@
 //! The texts of errors that the program prints, and its exit status for each.
 
+use adapter_server::ServeError;
 use driver::InitError;
 use pcap_bench::{
     BenchError, Fault, InvalidValue, LineError, ReadError, Refusal, ValueOption, WriteError, line,
@@ -69,6 +70,19 @@ fn errors_of_benches(rt: HostRuntime) -> Result<(), Fail> {
         (BenchError::Run(Stopped { done: 2 }), "E47 Memory", 4),
         (BenchError::Memory, "E57 Memory", 4),
         (BenchError::Write(WriteError::Write), "E67 Write", 3),
+    ];
+    for (error, text, status) in &errors {
+        assert!(rt; is_shown(rt.alloc(), error, text)? && error.status() == *status);
+    }
+    Ok(())
+}
+
+#[test]
+fn errors_of_servers(rt: HostRuntime) -> Result<(), Fail> {
+    let errors = [
+        (ServeError::Memory, "E57 Memory", 4),
+        (ServeError::Read, "E66 Read", 3),
+        (ServeError::Write, "E67 Write", 3),
     ];
     for (error, text, status) in &errors {
         assert!(rt; is_shown(rt.alloc(), error, text)? && error.status() == *status);

@@ -1,11 +1,7 @@
 //! An adapter with its memory, which plays words: a register's name reads the register, and `NAME:VALUE` writes it.
 
-use crate::fixtures::{A, NEEDED};
+use crate::fixtures::{A, NEEDED, offset_of, step_of};
 use crate::said::{Player, fate_word, outcome_word};
-use adapter::offsets::{
-    CTRL, EERD, GPTC, ICR, ICS, IMC, IMS, MDIC, MPC, PBA, RCTL, RDBAL, RDLEN, RDT, RNBC, TCTL,
-    TDBAL, TDLEN, TDT, VET,
-};
 use adapter::{Adapter, Outcome, StepKind};
 use bitflags::Flags;
 use descriptors::{RxDesc, RxStatus};
@@ -15,57 +11,11 @@ use mdic_phy::Link;
 use std::alloc::Global;
 use std::test::Fail;
 
-/// The names of registers.
-const REGISTERS: [(&str, u32); 20] = [
-    ("CTRL", CTRL),
-    ("EERD", EERD),
-    ("MDIC", MDIC),
-    ("VET", VET),
-    ("ICR", ICR),
-    ("ICS", ICS),
-    ("IMS", IMS),
-    ("IMC", IMC),
-    ("RCTL", RCTL),
-    ("TCTL", TCTL),
-    ("PBA", PBA),
-    ("RDBAL", RDBAL),
-    ("RDLEN", RDLEN),
-    ("RDT", RDT),
-    ("TDBAL", TDBAL),
-    ("TDLEN", TDLEN),
-    ("TDT", TDT),
-    ("MPC", MPC),
-    ("RNBC", RNBC),
-    ("GPTC", GPTC),
-];
-
 /// An adapter and its memory.
 #[derive(Drop)]
 pub(crate) struct Device {
     adapter: Adapter,
     memory: HostMemory,
-}
-
-/// Returns the offset of a register, by its name or as a hexadecimal number after `at`.
-fn offset_of(name: &str) -> Option<u32> {
-    for (known, offset) in REGISTERS {
-        if known == name {
-            return Some(offset);
-        }
-    }
-    u32::from_str_radix(name.strip_prefix("at")?, 16).ok()
-}
-
-fn step_of(name: &str) -> Option<StepKind> {
-    match name {
-        "eeprom" => Some(StepKind::EepromTick),
-        "phy" => Some(StepKind::PhyTick),
-        "take" => Some(StepKind::TxTake),
-        "put" | "blocked" => Some(StepKind::TxPut),
-        "data" => Some(StepKind::RxData),
-        "done" => Some(StepKind::RxDone),
-        _ => None,
-    }
 }
 
 impl Device {

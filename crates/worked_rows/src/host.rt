@@ -1,8 +1,7 @@
 //! A host over a bus with one adapter, which plays words.
 
-use crate::fixtures::{NEEDED, config, lively_bus};
+use crate::fixtures::{NEEDED, config, lively_bus, offset_of, step_of};
 use crate::said::{Player, fate_word, frame_word, handled_word, hex, outcome_word};
-use adapter::offsets::{MPC, RDH, RDT, RNBC, TDH, TDT};
 use adapter::{Bus, HonestBus, SoloBus, SoloTick, StepKind};
 use arrayvec::ArrayVec;
 use driver::Handled;
@@ -17,36 +16,13 @@ pub(crate) struct Solo {
     bus: SoloBus,
 }
 
-/// The step that a word names.
-fn step_of(name: &str) -> Option<StepKind> {
-    match name {
-        "take" => Some(StepKind::TxTake),
-        "put" => Some(StepKind::TxPut),
-        "data" => Some(StepKind::RxData),
-        "done" => Some(StepKind::RxDone),
-        _ => None,
-    }
-}
-
-/// The offset of the register that a word names.
-fn register_of(name: &str) -> Option<u32> {
-    match name {
-        "RDH" => Some(RDH),
-        "RDT" => Some(RDT),
-        "TDH" => Some(TDH),
-        "TDT" => Some(TDT),
-        "MPC" => Some(MPC),
-        "RNBC" => Some(RNBC),
-        _ => None,
-    }
-}
-
 /// Fills a frame with 0xFF, a broadcast destination among them, and sets its type.
 fn fill(frame: &mut [u8], kind: &str) {
     frame.fill(0xFF);
-    let number = u16::from_str_radix(kind, 16).unwrap_or(0).to_be_bytes();
-    if let Some(place) = frame.get_mut(12..14) {
-        place.copy_from_slice(&number);
+    let [high, low] = u16::from_str_radix(kind, 16).unwrap_or(0).to_be_bytes();
+    if frame.len() >= 14 {
+        frame[12] = high;
+        frame[13] = low;
     }
 }
 
@@ -95,7 +71,7 @@ fn call<B: Bus>(
     Ok(Some(said))
 }
 
-/// Returns what a host tells without a bus, if a word names it.
+/// Returns a count of a host, if a word names one.
 fn told(alloc: Global, host: &Host, name: &str, argument: &str) -> Result<Option<String>, Fail> {
     let socket = argument.parse::<usize>().unwrap_or(0);
     let (sum, exact) = host.missed();
@@ -159,7 +135,7 @@ impl Player for Solo {
         if let Some(kind) = step_of(name) {
             return Ok(outcome_word(&self.bus.step(kind)).to_string(alloc)?);
         }
-        if let Some(offset) = register_of(name) {
+        if let Some(offset) = offset_of(name) {
             return Ok(format!(in alloc; "{}", self.bus.read(offset))?);
         }
         if let Some(said) = told(alloc, &self.host, name, argument)? {

@@ -157,10 +157,10 @@ fn images_of_addresses(rt: HostRuntime) {
         let image = Image::with_address([0x02, 0, 0, 0, 0, last]);
         let wanted = words(third, sum);
         for (n, word) in wanted.iter().enumerate() {
-            assert!(rt; image.word(n as u8 & 63) == *word);
+            assert!(rt; image.word((n & 63) as u8) == *word);
         }
         assert!(rt; image.word(64) == 0xFFFF && checksum_ok(&image));
-        assert!(rt; !checksum_ok(&Image::from_words(words(third, sum + 1))));
+        assert!(rt; !checksum_ok(&Image::from_words(words(third, sum.wrapping_add(1)))));
     }
 }
 

@@ -1,5 +1,5 @@
-//! Worked examples of the whole, each played by the public calls: registers, descriptors, frames on wires, resets,
-//! traces and the lines of the program. The expected values were worked out by hand, and not by this program.
+//! Worked examples of registers, descriptors, frames on wires, resets, traces, scenarios and the program's lines, played
+//! by public calls. Their expected values aren't computed by the crates.
 #![tactic(auto)]
 
 #[cfg(test)]

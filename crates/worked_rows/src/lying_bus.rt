@@ -21,7 +21,7 @@ struct Liar {
 }
 
 impl Bus for Liar {
-    ghost use Rattle.std.specs.Prelude.{[], ⊤, ⊥, absurd};
+    ghost use Rattle.std.specs.Prelude.{[], ⊤};
     ghost use Rattle.adapter.specs.Registers.{new_adapter};
     ghost use Rattle.mdic_phy.specs.declared.phy.Link.TheVariants.{Never};
 

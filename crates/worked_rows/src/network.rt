@@ -7,55 +7,44 @@ use std::alloc::Global;
 use std::test::Fail;
 use wire::{Event, Lan};
 
-/// The words that are lines of a scenario: the name, the line before the argument and after it, and the number of
-/// zero bytes at the line's end.
-const LINES: [(&str, &str, &str, usize); 25] = [
-    ("send", "send a 020000000002020000000001", "", 0),
-    ("thirteen", "send a 02000000000202000000000108", "", 0),
-    ("longest", "send a 020000000002020000000001", "", 1504),
-    ("longer", "send a 020000000002020000000001", "", 1505),
-    ("to", "send a ", "0200000000010800", 0),
-    ("a", "send a ffffffffffff020000000001", "", 0),
-    ("b", "send b ffffffffffff020000000002", "", 0),
-    ("c", "send c ffffffffffff020000000003", "", 0),
-    ("take", "tick txtake:", "", 0),
-    ("put", "tick txput:", "", 0),
-    ("deliver", "tick deliver:", "", 0),
-    ("data", "tick rxdata:", "", 0),
-    ("done", "tick rxdone:", "", 0),
-    ("finish", "tick rxdata:b\ntick rxdone:b", "", 0),
-    (
-        "bring",
-        "tick txtake:a\ntick txput:a\ntick deliver:b",
-        "",
-        0,
-    ),
-    (
-        "brought",
-        "send a 020000000002020000000001",
-        "\ntick txtake:a\ntick txput:a\ntick deliver:b",
-        0,
-    ),
-    (
-        "arrived",
-        "send a 020000000002020000000001",
-        "\ntick txtake:a\ntick txput:a\ntick deliver:b\ntick rxdata:b\ntick rxdone:b",
-        0,
-    ),
-    (
-        "gone",
-        "send a 020000000002020000000001",
-        "\ntick txtake:a\ntick txput:a",
-        0,
-    ),
-    ("interrupt", "interrupt ", "", 0),
-    ("late", "interrupt b / go rxdata:b rxdone:b", "", 0),
-    ("recv", "recv ", " 0", 0),
-    ("join", "join b ", "", 0),
-    ("leave", "leave b ", "", 0),
-    ("reset", "reset ", "", 0),
-    ("line", "", "", 0),
-];
+/// The line of a frame of host `a` to host `b`, without the frame's type.
+const TO_B: &str = "send a 020000000002020000000001";
+
+/// Returns the lines of a word: before its argument and after it, and the number of zero bytes at their end.
+fn lines_of(name: &str) -> (&'static str, &'static str, usize) {
+    match name {
+        "send" => (TO_B, "", 0),
+        "thirteen" => ("send a 02000000000202000000000108", "", 0),
+        "longest" => (TO_B, "", 1504),
+        "longer" => (TO_B, "", 1505),
+        "to" => ("send a ", "0200000000010800", 0),
+        "a" => ("send a ffffffffffff020000000001", "", 0),
+        "b" => ("send b ffffffffffff020000000002", "", 0),
+        "c" => ("send c ffffffffffff020000000003", "", 0),
+        "take" => ("tick txtake:", "", 0),
+        "put" => ("tick txput:", "", 0),
+        "deliver" => ("tick deliver:", "", 0),
+        "data" => ("tick rxdata:", "", 0),
+        "done" => ("tick rxdone:", "", 0),
+        // A frame of host `a` goes to its wire (`gone`), to host `b` (`brought`), and to memory (`arrived`).
+        "gone" => (TO_B, "\ntick txtake:a\ntick txput:a", 0),
+        "bring" => ("tick txtake:a\ntick txput:a\ntick deliver:b", "", 0),
+        "brought" => (TO_B, "\ntick txtake:a\ntick txput:a\ntick deliver:b", 0),
+        "arrived" => (
+            TO_B,
+            "\ntick txtake:a\ntick txput:a\ntick deliver:b\ntick rxdata:b\ntick rxdone:b",
+            0,
+        ),
+        "finish" => ("tick rxdata:b\ntick rxdone:b", "", 0),
+        "interrupt" => ("interrupt ", "", 0),
+        "late" => ("interrupt b / go rxdata:b rxdone:b", "", 0),
+        "recv" => ("recv ", " 0", 0),
+        "join" => ("join b ", "", 0),
+        "leave" => ("leave b ", "", 0),
+        "reset" => ("reset ", "", 0),
+        _ => ("", "", 0),
+    }
+}
 
 /// The lines of hosts `a` and `b` on one wire.
 const HOSTS: &str = "host a 02:00:00:00:00:01 w\nhost b 02:00:00:00:00:02 w\n";
@@ -97,23 +86,19 @@ pub(crate) struct Network {
 
 /// Returns the line of a word; `_` in an argument is a space.
 fn line_of(alloc: Global, name: &str, argument: &str) -> Result<String, Fail> {
-    let mut line = String::new(alloc);
-    for (known, front, back, zeros) in LINES {
-        if known == name {
-            line.push_str(front)?;
-            for (index, part) in argument.split('_').enumerate() {
-                if index > 0 {
-                    line.push_str(" ")?;
-                }
-                line.push_str(part)?;
-            }
-            line.push_str(back)?;
-            for _ in 0..zeros {
-                line.push_str("00")?;
-            }
-            line.push_str("\n")?;
+    let (front, back, zeros) = lines_of(name);
+    let mut line = front.to_string(alloc)?;
+    for (index, part) in argument.split('_').enumerate() {
+        if index > 0 {
+            line.push_str(" ")?;
         }
+        line.push_str(part)?;
     }
+    line.push_str(back)?;
+    for _ in 0..zeros {
+        line.push_str("00")?;
+    }
+    line.push_str("\n")?;
     Ok(line)
 }
 

@@ -54,7 +54,12 @@ fn trace(alloc: Global, frames: &[([u8; 6], [u8; 4], usize)]) -> Result<Trace, F
         frame[..6].copy_from_slice(destination);
         frame[12..16].copy_from_slice(kind);
         let frame = frame.get(..*length).unwrap_or(&[]);
-        let one = trace_of(alloc, 0xA1B2_C3D4, false, &[(frame, *length as u32)])?;
+        let one = trace_of(
+            alloc,
+            0xA1B2_C3D4,
+            false,
+            &[(frame, u32::try_from(*length).unwrap_or(0))],
+        )?;
         bytes.extend_from_slice(one.get(24..).unwrap_or(&[]))?;
     }
     Ok(Trace::read(alloc, &mut SliceSource::new(&bytes))?)
@@ -63,12 +68,15 @@ fn trace(alloc: Global, frames: &[([u8; 6], [u8; 4], usize)]) -> Result<Trace, F
 /// Returns the times of a trace whose seconds are 0, in its unit.
 fn times(alloc: Global, bytes: &[u8]) -> Result<String, Fail> {
     let mut text = String::new(alloc);
-    let mut place = 24usize;
-    while let Some(header) = bytes.get(place..place.saturating_add(16)) {
-        let time = u32::from_le_bytes([header[4], header[5], header[6], header[7]]);
-        let length = u32::from_le_bytes([header[8], header[9], header[10], header[11]]);
-        text.push_str(format!(in alloc; "{time} ")?.as_str())?;
-        place = place.saturating_add(16).saturating_add(length as usize);
+    let mut rest = bytes.get(24..).unwrap_or(&[]);
+    for _ in 0..bytes.len() {
+        let Some((header, packet)) = rest.split_first_chunk::<16>() else {
+            break;
+        };
+        let [_, _, _, _, a, b, c, d, e, f, g, h, ..] = *header;
+        text.push_str(format!(in alloc; "{} ", u32::from_le_bytes([a, b, c, d]))?.as_str())?;
+        let length = u32::from_le_bytes([e, f, g, h]) as usize;
+        rest = packet.get(length..).unwrap_or(&[]);
     }
     Ok(text)
 }
@@ -304,7 +312,7 @@ fn scenarios_are_refused(rt: HostRuntime) -> Result<(), Fail> {
         let lines = cut.iter().filter(|byte| **byte == b'\n').count();
         if let Err(refusal) = Scenario::read(alloc, cut) {
             assert!(rt;
-                matches!(refusal, Refusal::Line { line, .. } if line == lines + 1),
+                matches!(refusal, Refusal::Line { line, .. } if lines.checked_add(1) == Some(line)),
                 "{length}"
             );
             assert!(rt; refusal.status() == 1);

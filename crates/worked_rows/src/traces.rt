@@ -33,7 +33,7 @@ pub(crate) fn trace_of(
         push_number(&mut bytes, number, big)?;
     }
     for (captured, original) in packets {
-        for number in [0, 0, captured.len() as u32, *original] {
+        for number in [0, 0, u32::try_from(captured.len()).unwrap_or(0), *original] {
             push_number(&mut bytes, number, big)?;
         }
         bytes.extend_from_slice(captured)?;

@@ -1,0 +1,266 @@
+"""Opens pages of runs in headless Chromium, from the disk: keys, mouse, search, links, colors, a phone, and print.
+
+The screenshots are in .build/race_pages. If there is no Chromium (Debian: package chromium), the test prints what it
+doesn't test.
+"""
+
+import json
+import os
+import subprocess
+import sys
+
+from finder.page.from_scenario import STAGES
+from finder.page.log import Log, RunLog, Step
+from finder.page.write import page
+from browser import NAMES, Browser, program
+from harness import TOP, not_run
+from race_pages import QUEUE, STAGED, TXSTOP, logs_of
+
+FOLDER = os.path.join(TOP, ".build", "race_pages")
+NOW = "document.querySelector('.now')"
+STEP = "document.querySelector('#state b').textContent"
+WIDE, PHONE = (1400, 900), (390, 844)
+# The contrast between the colors of the text and the background of each element with text: the least, and where it is
+CONTRAST = """(() => {
+  const parts = text => text.match(/[\\d.]+/g).map(Number);
+  const light = ([r, g, b]) => [r, g, b].map(c => c / 255).map(c => c <= .03928 ? c / 12.92 : ((c + .055) / 1.055) ** 2.4)
+    .reduce((sum, c, n) => sum + c * [.2126, .7152, .0722][n], 0);
+  const back = element => {
+    for (; element; element = element.parentElement) {
+      const color = parts(getComputedStyle(element).backgroundColor);
+      if (color.length < 4 || color[3] > 0) return color;
+    }
+    return [255, 255, 255];
+  };
+  let least = [99, ''];
+  for (const element of document.querySelectorAll('header *, nav *, #state *, .steps li.now *, .steps li.dev *, .head *')) {
+    const own = [...element.childNodes].some(one => one.nodeType === 3 && one.textContent.trim());
+    if (!own || !element.getClientRects().length || element.closest('svg, option')) continue;
+    const [a, b] = [light(parts(getComputedStyle(element).color)), light(back(element))].sort((x, y) => y - x);
+    const ratio = (a + .05) / (b + .05);
+    if (ratio < least[0]) least = [ratio, element.outerHTML.slice(0, 120)];
+  }
+  return least;
+})()"""
+# The elements for input without a name for a screen reader
+UNNAMED = """[...document.querySelectorAll('button, input, select, svg')].filter(one => !(one.getAttribute('aria-label')
+  || one.closest('label') || one.textContent.trim())).map(one => one.outerHTML.slice(0, 80))"""
+
+
+def stored(name, text):
+    """Stores a page. Returns its address."""
+    path = os.path.join(FOLDER, f"{name}.html")
+    with open(path, "w", encoding="utf-8") as file:
+        file.write(text)
+    return f"file://{path}"
+
+
+def picture(browser, name):
+    browser.picture(os.path.join(FOLDER, f"{name}.png"))
+
+
+def late(server, browser, address, run, other):
+    """Keys and mouse lead from step to step, and the state of a step is that of the log."""
+    browser.open(address)
+    server.check("late: no trouble", browser.troubles(), [])
+    icr = next(at for at, step in enumerate(run.steps) if step.place == "4.6")
+    server.check("late: it begins where it goes wrong", browser.value(STEP), f"Step {icr}")
+    server.check("late: rows", browser.value("document.querySelectorAll('#steps > li:not(.gap)').length"),
+                 len(run.steps))
+    why = browser.value("document.querySelector('header .why').textContent")
+    server.check("late: the reason", [text in why for text in ("RXT0 of frame 1", "while the handler runs")],
+                 [True, True])
+    server.check("late: the numbers of rows", browser.value(f"{NOW}.step"), icr)
+    ring = browser.value("document.querySelector('svg').getAttribute('aria-label')")
+    server.check("late: the ring", ("rx[1]: finished, frame 1." in ring, "rx[2]: offered, RDH." in ring), (True, True))
+    server.check("late: the descriptor",
+                 browser.value("[...document.querySelectorAll('#state h2')].map(one => one.textContent)"),
+                 ["Registers", "Packet buffers", "Descriptor rx[1], finished"])
+    server.check("late: what changed", browser.value("document.querySelector('tr.changed').textContent"), "ICR0x0 ")
+    picture(browser, "late")
+    for key, text, wanted in [("ArrowLeft", "", icr - 1), ("ArrowUp", "", icr - 2), (" ", " ", icr - 1),
+                              ("ArrowDown", "", icr), ("PageUp", "", icr - 10), ("Home", "", 0),
+                              ("End", "", len(run.steps) - 1), ("w", "w", icr), ("d", "d", icr - 1),
+                              ("ArrowRight", "", icr)]:
+        browser.press(key, text)
+        server.check(f"late: key {key!r}", (browser.value(STEP), browser.value("location.hash")),
+                     (f"Step {wanted}", f"#{wanted}"))
+    browser.click("#back")
+    server.check("late: the button back", browser.value(STEP), f"Step {icr - 1}")
+    browser.value(f"document.querySelectorAll('#steps > li')[{icr - 3}].scrollIntoView()")
+    browser.click(f"#steps > li:nth-child({icr - 2}) b")
+    server.check("late: a click on a row", browser.value(STEP), f"Step {icr - 3}")
+    browser.value("location.hash = '#57'")
+    browser.value("new Promise(done => setTimeout(done, 50))")
+    server.check("late: the link #57", browser.value(STEP), "Step 57")
+    browser.open(f"{address}#60")
+    server.check("late: opened with #60", browser.value(STEP), "Step 60")
+
+
+def finds(server, browser, address, run):
+    """The search finds steps, and the list of frames leads to each step at which a frame moves."""
+    browser.open(address)
+    browser.press("/", "/")
+    server.check("search: the key leads to the box", browser.value("document.activeElement.id"), "search")
+    browser.call("Input.insertText", text="read rx[0]+8")
+    hits = [at for at, step in enumerate(run.steps) if step.action == "read" and step.name == "rx[0]+8"]
+    server.check("search: found", (browser.value("document.querySelectorAll('.hit').length"),
+                                   browser.value("document.getElementById('count').textContent")),
+                 (len(hits), f"{len(hits)} found"))
+    browser.press("Enter", "\r")
+    server.check("search: the first", browser.value(STEP), f"Step {hits[0]}")
+    server.check("search: a key of the page is a letter here", browser.value("document.body.className"), "")
+    browser.value("document.activeElement.blur()")
+    browser.value("const list = document.getElementById('frame'); list.value = 'frame 1';"
+                  "list.dispatchEvent(new Event('change'))")
+    steps = browser.value("[...document.querySelectorAll('#trail a')].map(one => +one.textContent.slice(1))")
+    wanted = [at for at, step in enumerate(run.steps) if step.action in ("arrive", "rxdata", "rxdone")][3:6]
+    server.check("frame 1: where it was", steps, wanted)
+    server.check("frame 1: its arrival is shown", browser.value(STEP), f"Step {wanted[0]}")
+    server.check("frames: all are in the list", browser.value("document.querySelectorAll('#frame option').length - 1"),
+                 sum(step.action == "arrive" for step in run.steps))
+
+
+def compares(server, browser, address, run, other):
+    """The run without deviations is in the same rows, and has its own states."""
+    browser.open(address)
+    browser.press("c", "c")
+    server.check("compare: it is on", browser.value("document.getElementById('compare').getAttribute('aria-pressed')"),
+                 "true")
+    texts = browser.value("rows.filter(row => row.second !== undefined).map(row => textOf('other', row))")
+    server.check("compare: the rows of the other run", len(texts), len(other.steps))
+    differs = browser.value("rows.filter(row => row.step !== undefined && row.second !== undefined "
+                            "&& own(row).textContent !== row.querySelector('s').textContent).map(row => row.step)")
+    first = browser.value("document.querySelector('li.differs').step")
+    server.check("compare: rows differ only from the first difference on", [at for at in differs if at < first], [])
+    picture(browser, "txstop-compare")
+    browser.press("Home")
+    browser.press("o", "o")
+    server.check("compare: the other run's step", browser.value(STEP), "Step 0 (without deviations)")
+    browser.press("End")
+    server.check("compare: its last step", (browser.value(STEP), browser.value("location.hash")),
+                 (f"Step {len(other.steps) - 1} (without deviations)", f"#other{len(other.steps) - 1}"))
+    ring = browser.value("document.querySelectorAll('svg')[1].getAttribute('aria-label')")
+    server.check("compare: its ring", "in progress" in ring, False)
+    browser.press("c", "c")
+    server.check("compare: it is off", (browser.value("document.body.className"), "without" in browser.value(STEP)),
+                 ("", False))
+    server.check("compare: no trouble", browser.troubles(), [])
+
+
+def looks(server, browser, address, name):
+    """Light and dark, on a phone, and printed: texts have enough contrast, and nothing is wider than the screen."""
+    for scheme in ("light", "dark"):
+        for size in (WIDE, PHONE):
+            browser.size(*size, is_phone=size == PHONE)
+            browser.media(scheme)
+            browser.open(address)
+            what = f"{name}: {scheme}, {size[0]} pixels"
+            ratio, where = browser.value(CONTRAST)
+            server.holds(f"{what}: contrast", ratio >= 4.5, f"{ratio:.2f} of {where}")
+            server.check(f"{what}: not wider", browser.value("document.documentElement.scrollWidth"), size[0])
+            rows = browser.value("[...document.querySelectorAll('#steps > li')].filter(one => one.scrollWidth >"
+                                 " one.clientWidth + 1).map(one => one.textContent)")
+            server.check(f"{what}: each row fits", rows, [])
+            shown = browser.value(f"(() => {{ const row = {NOW}.getBoundingClientRect(), list = document"
+                                  ".querySelector('.list').getBoundingClientRect(); return row.top >= list.top - 1 &&"
+                                  " row.top < list.bottom })()")
+            server.check(f"{what}: the step is on the screen", shown, True)
+            server.check(f"{what}: names for screen readers", browser.value(UNNAMED), [])
+            told = browser.value("document.getElementById('told').textContent")
+            server.check(f"{what}: the step is told", told.startswith(browser.value(STEP).split(" (")[0]), True)
+            picture(browser, f"{name}-{scheme}-{size[0]}")
+    browser.size(*WIDE)
+    browser.media("light", "print")
+    hidden = browser.value("getComputedStyle(document.querySelector('nav')).display")
+    tall = browser.value("(list => list.scrollHeight <= list.clientHeight + 1)(document.querySelector('.list'))")
+    server.check(f"{name}: printed, all steps and no buttons", (hidden, tall), ("none", True))
+    browser.media()
+
+
+def hostile(server, browser):
+    """A text of a run is never a part of the page."""
+    bad = "</script><img src=x onerror=window.bad=1>&amp;\"'"
+    run = RunLog(bad, (bad,), bad, (Step("driver", "mark", outcome=bad), Step(bad, "read", bad, bad, 4, 1),
+                                    Step("adapter", bad, bad, bad)))
+    browser.open(stored("hostile", page(Log(bad, run, run._replace(fault=None)))))
+    browser.value("compare(true); find('img'); trail('frame 1')")
+    server.check("hostile: no trouble", (browser.value("window.bad"), browser.value("document.images.length"),
+                                         browser.troubles()), (None, 0, []))
+    server.check("hostile: its title", browser.value("document.title"), f"{bad}: {bad}")
+    browser.open(stored("empty", page(Log("empty", RunLog("empty")))))
+    server.check("a run without steps", (browser.value("document.getElementById('state').textContent"),
+                                         browser.troubles()), ("The log has no steps.", []))
+
+
+def long(server, browser):
+    """A part of a long run keeps the numbers of the steps, and the state of the steps before it."""
+    accesses = [Step("driver", "write", "0.1", "RDLEN", 4, 0x80), Step("driver", "write", "0.2", "RDT", 4, 7)]
+    more = [Step("driver", "read", f"1.{at}", "RDT", 4, 7) for at in range(10_000)]
+    browser.open(stored("long", page(Log("long", RunLog("long", (), "it fails", (*accesses, *more))))))
+    server.check("long: the last step", browser.value(STEP), "Step 10001")
+    browser.press("Home")
+    ring = browser.value("document.querySelector('svg').getAttribute('aria-label')")
+    server.check("long: the first step", (browser.value(STEP), "rx[0]: offered, RDH." in ring, browser.troubles()),
+                 ("Step 6002", True, []))
+
+
+def large(server, browser):
+    """Of a large ring, the slots near the head are drawn."""
+    steps = [Step("driver", "write", "0.1", "RDLEN", 4, 65536), Step("driver", "write", "0.2", "RDH", 4, 4090),
+             Step("driver", "write", "0.3", "RDT", 4, 5)]
+    browser.open(stored("large", page(Log("large", RunLog("large", steps=tuple(steps))))))
+    ring = browser.value("document.querySelector('svg').getAttribute('aria-label')")
+    server.check("large: the ring", [text in ring for text in ("4096 slots", "rx[4090]: offered, RDH.",
+                                                              "rx[4]: offered.", "rx[5]: the driver's, RDT.")],
+                 [True] * 4)
+    server.check("large: slots", (browser.value("document.querySelectorAll('circle').length"), browser.troubles()),
+                 (48, []))
+
+
+def scenario(server, browser):
+    """The page of a scenario shows where the frames of each host are."""
+    ran = subprocess.run([server.program, "run", "--events", "-", os.path.join(TOP, "examples", "race.scenario"),
+                          server.folder], capture_output=True, check=False)
+    made = subprocess.run([sys.executable, "-S", "-E", os.path.join(TOP, "tools", "run_chart"), "--html",
+                           os.path.join(TOP, "examples", "race.scenario")], input=ran.stdout, capture_output=True,
+                          check=False)
+    server.check("scenario: the page", (made.returncode, made.stderr), (0, b""))
+    browser.size(*WIDE)
+    browser.open(stored("scenario", made.stdout.decode()))
+    browser.press("End")
+    lines = browser.value("[...document.querySelectorAll('#state tr')].map(one => one.textContent)")
+    wanted = {"taken by the driver0 1 2", *STAGES}
+    server.check("scenario: where the frames are", (set(lines) - wanted, browser.troubles()), (set(), []))
+    browser.value("show(20)")
+    picture(browser, "scenario")
+    steps = browser.value("trail('frame 2') && document.getElementById('trail').textContent")
+    server.check("scenario: the way of frame 2", [stage for stage in STAGES if stage in steps],
+                 [stage for stage in STAGES if stage != "not stored"])
+
+
+def all_cases(server):
+    path = program()
+    if not path:
+        not_run("pages of runs in a browser", f"there is no {NAMES[0]}")
+        return
+    os.makedirs(FOLDER, exist_ok=True)
+    run, other = logs_of(server, [*STAGED, "stages", "late"], "4.6 rxdone before read ICR")
+    address = stored("late", page(Log("staged_test.py stages late", run, other)))
+    queue, right = logs_of(server, [*QUEUE, "txstop"], TXSTOP)
+    second = stored("txstop", page(Log("queue_test.py txstop", queue, right)))
+    with Browser(path) as browser:
+        browser.size(*WIDE)
+        browser.media()
+        late(server, browser, address, run, other)
+        finds(server, browser, address, run)
+        compares(server, browser, second, queue, right)
+        looks(server, browser, address, "late")
+        looks(server, browser, second, "txstop")
+        hostile(server, browser)
+        long(server, browser)
+        large(server, browser)
+        scenario(server, browser)
+    left = json.dumps(subprocess.run(["ps", "-o", "stat=", "-p", str(browser.process.pid)], capture_output=True,
+                                     text=True, check=False).stdout.strip())
+    server.check("the browser has ended", left, '""')

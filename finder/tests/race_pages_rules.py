@@ -1,0 +1,181 @@
+"""Tests the rules by which a page states why a run fails, with short logs in the explorer's form.
+
+Each rule has a log in which it finds something, and a log of the same shape in which it must find nothing.
+"""
+
+from finder.page.from_explorer import of_text
+from finder.page.log import ADAPTER, DRIVER, HANDLER, WIRE, LogError, RunLog
+from finder.page.reasons import QUIET, findings, reasons
+from finder.page.state import State
+
+# A receive ring of 8 slots at 0x1000, all but the last one offered, with buffers of 2,048 bytes from 0x10000 on. A
+# transmit ring of 8 slots at 0x2000.
+BUFFERS = [f"write {0x1000 + 16 * slot:#x}, 16 bytes: {(0x10000 + 2048 * slot).to_bytes(8, 'little').hex():0<32}"
+           for slot in range(8)]
+SET_UP = [*BUFFERS, "write 0x2000, 128 bytes: 00000000000000000000000000000000..", "write RDBAL 0x1000",
+          "write RDLEN 0x80", "write RDT 0x7", "write TDBAL 0x2000", "write TDLEN 0x80", "write RCTL 0x8002",
+          "write TCTL 0x2", "write IMS 0x81"]
+REFILL = "write rx[0], 16 bytes: 00000100000000000000000000000000"
+FRAME, SENT = "arrive: stored", "write tx[0], 16 bytes: 00000200000000003c00000900000000"
+LOADED, NEXT = "read rx[0]+8, 8 bytes: 3c00000003000000", "read rx[1]+8, 8 bytes: 3c00000003000000"
+DONE = ["rxdata: moved", "rxdone: done"]
+BUFFER = "read 0x10000, 4 bytes: ffffffff"
+# For each case: the kind that is found or None, the heading in RACES, and the lines after SET_UP
+CASES = [
+    ("late", "A frame is finished while the handler runs", [FRAME, *DONE, "read ICR 0x80"]),
+    (None, "", [FRAME, *DONE, "read ICR 0x80", LOADED]),
+    ("late", "A frame is finished while the handler runs", [FRAME, *DONE, "write ICR 0x80"]),
+    (None, "", [FRAME, *DONE, "write ICR 0x1"]),
+    ("length", "A descriptor is written back between two loads of it",
+     [FRAME, "read rx[0]+8, 2 bytes: 0000", *DONE, "read rx[0]+12, 1 bytes: 03"]),
+    (None, "", [FRAME, *DONE, "read rx[0]+8, 2 bytes: 3c00", "read rx[0]+12, 1 bytes: 03"]),
+    (None, "", [FRAME, "read rx[0]+8, 2 bytes: 0000", *DONE, "read rx[0]+8, 2 bytes: 3c00",
+                "read rx[0]+12, 1 bytes: 03"]),
+    ("rdh", "The head has passed a slot that is in progress", [FRAME, "rxdata: moved", "read RDH 0x1"]),
+    (None, "", [FRAME, *DONE, "read RDH 0x1", LOADED]),
+    ("head", "The head has passed a slot that is in progress", [FRAME, "rxdata: moved", BUFFER]),
+    (None, "", [FRAME, *DONE, LOADED, BUFFER]),
+    ("head", "The head has passed a slot that is in progress", [FRAME, "rxdata: moved", REFILL]),
+    (None, "", [FRAME, *DONE, LOADED, REFILL]),
+    ("early", "A frame is written to a buffer that is still read", [BUFFER]),
+    (None, "", [FRAME, *DONE, LOADED, REFILL, BUFFER]),
+    ("part", "A frame spans several descriptors",
+     [FRAME, "rxdata: part", "rxdone: done", "rxdata: moved", "read rx[0]+12, 1 bytes: 01", BUFFER]),
+    (None, "", [FRAME, "rxdata: part", "rxdone: done", *DONE, "read rx[0]+12, 1 bytes: 01",
+                "read rx[1]+12, 1 bytes: 03", BUFFER]),
+    ("rdt store", "A slot is used before its descriptor is stored",
+     [FRAME, *DONE, LOADED, "write RDT 0x0", "write rx[7], 16 bytes: 00380100000000000000000000000000"]),
+    (None, "", [FRAME, *DONE, LOADED, REFILL, "write RDT 0x0"]),
+    ("rdt", "A slot is used before its descriptor is stored",
+     [*[FRAME] * 9, *DONE * 7, "write RDT 0x1", *DONE * 2]),
+    ("done", "A slot is done before it is offered",
+     [FRAME, FRAME, *DONE * 2, LOADED, "write rx[0], 8 bytes: 0000010000000000", "write RDT 0x1", NEXT]),
+    (None, "", [FRAME, FRAME, *DONE * 2, LOADED, REFILL, "write RDT 0x1", NEXT]),
+    ("full", "A full ring looks empty", ["write RDT 0x0"]),
+    (None, "", ["write RDT 0x6"]),
+    ("full", "A full ring looks empty", [SENT, "write TDT 0x1", "write TDT 0x0"]),
+    ("twice", "A frame is written to a buffer that is still read",
+     [FRAME, FRAME, *DONE * 2, LOADED, "write rx[0], 16 bytes: 00180100000000000000000000000000", "write RDT 0x1"]),
+    ("dry", "All buffers are held", [*[FRAME] * 8, *DONE * 7, *[f"read rx[{at}]+12, 1 bytes: 03" for at in range(7)]]),
+    (None, "", [*[FRAME] * 7, *DONE * 7, *[f"read rx[{at}]+12, 1 bytes: 03" for at in range(7)]]),
+    ("rxo", "A frame is missed while misses are counted", ["read MPC 0", "arrive: missed", "write ICR 0x40"]),
+    (None, "", ["arrive: missed", "write ICR 0x40", "read MPC 0x1"]),
+    ("mta", "A word of the group table is cleared for a moment",
+     ["write MTA[1] 0x2", "write MTA[1] 0", "arrive: filtered", "write MTA[1] 0x6"]),
+    (None, "", ["write MTA[1] 0x2", "arrive: filtered", "write MTA[1] 0x6"]),
+    (None, "", ["write MTA[1] 0x2", "write MTA[1] 0", "arrive: filtered", "write MTA[1] 0x4"]),
+    ("mpc", "A miss is lost in a reset", ["arrive: missed", "write CTRL 0x4000000"]),
+    (None, "", ["arrive: missed", "read MPC 0x1", "write CTRL 0x4000000"]),
+    ("ics", "The handler wakes itself", ["write ICS 0x80"]),
+    (None, "", ["write ICS 0x4"]),
+    ("tdt store", "A frame is taken before it is stored", ["write TDT 0x1", SENT]),
+    (None, "", [SENT, "write TDT 0x1"]),
+    ("tdt", "A frame is taken before it is stored", ["write TDT 0x1", "txtake: fault"]),
+    ("fault", "", [SENT, "write TDT 0x1", "txtake: fault"]),
+    (None, "", [SENT, "write TDT 0x1", "txtake: took", "txput: put", "read tx[0]+12, 1 bytes: 01"]),
+    ("tdh", "The head has passed a frame that isn't sent", [SENT, "write TDT 0x1", "txtake: took", "read TDH 0x1"]),
+    (None, "", [SENT, "write TDT 0x1", "txtake: took", "txput: put", "read TDH 0x1"]),
+    ("freed", "The head has passed a frame that isn't sent", [SENT, "write TDT 0x1", "txtake: took", SENT]),
+    ("erased", "A frame is taken before it is stored", [SENT, "write TDT 0x1", "txtake: took", "txput: put", SENT]),
+    (None, "", [SENT, "write TDT 0x1", "txtake: took", "txput: put", "read tx[0]+12, 1 bytes: 01", SENT]),
+    ("cuts", "The handler cuts in on a send", [SENT, SENT]),
+    (None, "", [SENT, SENT.replace("tx[0]", "tx[1]")]),
+    ("masked", "", ["write IMC 0x80", FRAME, *DONE]),
+    (None, "", ["write IMC 0x80", FRAME, *DONE, "write IMS 0x80"]),
+    (None, "", ["write IMC 0x2", FRAME, *DONE]),
+    ("eerd", "A word is read before it is there", ["write EERD 0x1", "read EERD 0x1", "write EERD 0x101"]),
+    (None, "", ["write EERD 0x1", "read EERD 0x1", "read EERD 0x20010", "write EERD 0x101"]),
+]
+
+
+def text_of(lines, end="it fails"):
+    """The text that the explorer prints for these lines, with places. A line that begins with a star is a deviation."""
+    text, number = "", 0
+    for line in lines:
+        star, line = ("*", line[2:]) if line.startswith("* ") else (" ", line)
+        number += 1
+        if line.startswith(("read", "write", "settle", "step")):
+            text += f"  1.{number:<4} {line}\n"
+        else:
+            text += f"{star}        {line}\n"
+    return f"{text}{end}\n"
+
+
+def cases(server):
+    """Each rule finds the race that its log shows, and nothing in the log of the same shape without it."""
+    for number, (kind, section, lines) in enumerate(CASES):
+        run = of_text(text_of([*SET_UP, *lines]), "run")
+        found = [one for one in findings(run) if one.kind != QUIET]
+        name = f"rules: case {number}, {lines[-1]}"
+        if kind:
+            server.check(name, [one.section for one in found if one.kind == kind], [section])
+        else:
+            server.check(name, found, [])
+        for one in found:
+            server.check(f"{name}: the step", 0 <= one.step < len(run.steps), True)
+        told = reasons(run, run._replace(fault=None))
+        server.check(f"{name}: not if the other run has it", [one.kind for one in told if one.kind != QUIET], [])
+        server.check(f"{name}: a run that passes", reasons(run._replace(fault=None), None), [])
+
+
+def quiet(server):
+    """A last read of ICR is a reason only if nothing else is, and the adapter has nothing left to do."""
+    sent = [SENT, "write TDT 0x1", "txtake: took", "txput: put", "the line is raised"]
+    read, status = ["read ICR 0x3", "the line is lowered"], "read tx[0]+12, 1 bytes: 01"
+    for lines, wanted in [([*sent, *read, status], [QUIET]), ([*sent, *read, status, "write TDT 0x1"], []),
+                          ([*sent, *read, FRAME], []), ([*sent, "read ICR 0x3"], []), (["read ICR 0"], []),
+                          ([*sent, *read, SENT.replace("tx[0]", "tx[1]"), "write TDT 0x2"], [])]:
+        run = of_text(text_of([*SET_UP, *lines]), "run")
+        server.check(f"quiet: {lines[-2:]}", [one.kind for one in reasons(run, None)], wanted)
+
+
+def explorer(server):
+    """The lines that the explorer prints are read; others are refused."""
+    text = text_of(["settle", "read rx[1]+8 by a pointer, where these bytes are: 3c000000", "write rx[1] by a pointer",
+                    "* arrive: stored", "the handler cuts in", "read ICR 0x80", "the line is lowered",
+                    "the handler returns", "write 0x10000, 60 bytes: 000102030405060708090a0b0c0d0e0f..",
+                    "eeprom: ticked"],
+                   "The test passes.")
+    run = of_text(text, "run", ("1.1 rx before read ICR",))
+    told = [(step.actor, step.action, step.name, step.size, step.is_deviation) for step in run.steps]
+    server.check("explorer: the steps", told, [
+        (DRIVER, "request", "", 0, False), (DRIVER, "read", "rx[1]+8", 0, False), (DRIVER, "write", "rx[1]", 0, False),
+        (WIRE, "arrive", "", 0, True), (HANDLER, "mark", "", 0, False), (HANDLER, "read", "ICR", 4, False),
+        (ADAPTER, "lower", "", 0, False), (HANDLER, "mark", "", 0, False), (DRIVER, "write", "0x10000", 60, False),
+        (ADAPTER, "eeprom", "", 0, False)])
+    server.check("explorer: values", (run.fault, run.steps[1].data, run.steps[5].value, len(run.steps[8].data)),
+                 (None, bytes.fromhex("3c000000"), 0x80, 16))
+    more = of_text("  4.6+1  touch 0x10\n  4.7    choose 0x2\n  4.8    arrive: stored\n  4.9    settle\nit fails\n",
+                   "run")
+    server.check("explorer: other places", [(step.actor, step.action, step.place, step.outcome) for step in more.steps],
+                 [(DRIVER, "request", "4.6+1", "touch 0x10"), (DRIVER, "request", "4.7", "choose 0x2"),
+                  (WIRE, "arrive", "4.8", "stored"), (DRIVER, "request", "4.9", "settle")])
+    for bad in ("", "\n", "The test passes.\n", "  1.1    read ICR 0x80\n", "  1.1    read ICR\nok\n",
+                "         rxdata: done\nok\n", "x\n  1.1    read ICR 0x80\nok\n", text + "more\n",
+                "  1.1    read rx[0], 1 bytes: 0\nok\n"):
+        try:
+            of_text(bad, "run")
+            server.check(f"explorer: {bad[:30]!r} is refused", True, False)
+        except (LogError, ValueError) as error:
+            server.check(f"explorer: {bad[:30]!r} is refused", isinstance(error, LogError), True)
+
+
+def unknown(server):
+    """What a log doesn't show isn't stated: bytes stored by a pointer, causes of the PHY, the length of a frame."""
+    state = State()
+    for step in of_text(text_of([*SET_UP, "write tx[0] by a pointer", FRAME, *DONE, "phy: ticked"]), "run").steps:
+        state.play(step)
+    server.check("unknown: bytes", (state.cells["tx[0]="][:4], state.cells["rx[0]="][16:20]), ("..00", "...."))
+    server.check("unknown: causes", (state.cells["ICR"], state.cells["ICR?"], state.wrong), ("0x80", "LSC MDAC", []))
+    for step in of_text(text_of(["read ICR 0x84", "read ICR 0"]), "run").steps:
+        state.play(step)
+    server.check("unknown: after a read", (state.cells["ICR"], state.cells["ICR?"], state.wrong), ("0x0", "", []))
+    for step in of_text(text_of(["read ICR 0x80", "read RDH 0x5", "read rx[0]+12, 1 bytes: 01"]), "run").steps:
+        state.play(step)
+    server.check("unknown: what can't be is noted", len(state.wrong), 3)
+    server.check("unknown: a run without steps", findings(RunLog("run")), [])
+
+
+def all_cases(server):
+    for part in [cases, quiet, explorer, unknown]:
+        part(server)
