@@ -1,4 +1,4 @@
-"""Tests of the release in dist: each C compiler builds it, and the repository's scripts use it without the toolchain."""
+"""Tests of the release in dist: each C compiler builds it, and the scripts use it without the toolchain."""
 
 import os
 import re
