@@ -242,6 +242,7 @@ def by_pip(library):
     code = re.search(r"```python\n(.*?)```", text_of("docs", "LIBRARY.md"), re.S)[1]
     installed = ["env", "-u", "NIC82540EM_LIB", f"PYTHONPATH={target}", sys.executable, "-B", "-c", code]
     library.prints("the package: runs", installed, "True 0x80\n")
+    library.check("the package has types", os.path.exists(os.path.join(target, "nic82540em", "py.typed")), True)
     ran = install(library.folder)
     is_told = "libnic82540em.so isn't in" in ran.stderr
     library.check("pip without the library", (ran.returncode != 0, is_told), (True, True))
