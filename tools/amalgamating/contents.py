@@ -17,6 +17,8 @@ HOOKS = os.path.join("pointers", "hooks.c")
 # What the preprocessor knows of a processor for which there is code
 KNOWN = {target: f"defined(__{target}__) && !defined(__ILP32__)" for target in ("x86_64", "aarch64")}
 LINUX = "defined(__linux__)"
+# Also in a file that is empty otherwise: an object without this section asks for a stack that can be executed.
+NO_STACK = '.section .note.GNU-stack,"",%progbits'
 ABOUT = "Made by tools/amalgamation from the C sources of the explorer, bindings/c/explore: change them there."
 # If the explorer asks where its variables are: they aren't the test's. bindings/c/explore/build moves them to other
 # sections, by a tool that not everybody has. Here, labels are around the sections of the file.
@@ -47,7 +49,7 @@ def assembly(text, target, others):
     known = " || ".join(f"({KNOWN[it]})" for it in (target, *others))
     names = " or ".join(it.replace("_", "-") for it in sorted({target, *others}, reverse=True))
     return (f"#if !({LINUX} && ({known}))\n#error \"this code is for Linux on {names}\"\n#endif\n"
-            f"#if {KNOWN[target]}\n{text}#endif\n")
+            f"#if {KNOWN[target]}\n{text}#endif\n{NO_STACK}\n")
 
 
 def template():

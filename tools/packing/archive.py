@@ -88,8 +88,11 @@ def write_deb(tree, control, target, moment):
         os.makedirs(os.path.join(inner, "DEBIAN"))
         with open(os.path.join(inner, "DEBIAN", "control"), "w") as file:
             file.write("".join(f"{name}: {value}\n" for name, value in {**control, "Installed-Size": size}.items()))
-        for path in (os.path.join(inner, "DEBIAN", "control"), os.path.join(inner, "DEBIAN"), inner):
-            os.utime(path, (moment, moment))
+        # the package has a shared library, which the loader finds by its cache
+        with open(os.path.join(inner, "DEBIAN", "triggers"), "w") as file:
+            file.write("activate-noawait ldconfig\n")
+        for path in ("DEBIAN/control", "DEBIAN/triggers", "DEBIAN", "."):
+            os.utime(os.path.join(inner, path), (moment, moment))
         made = os.path.join(folder, "package.deb")
         subprocess.run(["dpkg-deb", "--root-owner-group", "-Zgzip", "--build", inner, made], check=True,
                        stdout=subprocess.DEVNULL, env={**os.environ, "SOURCE_DATE_EPOCH": str(moment)})
