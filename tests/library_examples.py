@@ -172,6 +172,55 @@ def by_cmake(library):
             library.prints(f"CMake, {kind}: runs", [f"{folder}/made/first_{kind}"], output_of("first"))
 
 
+EXPLORE = """cmake_minimum_required(VERSION 3.13)
+project(explore C)
+enable_testing()
+find_package(nic82540em_explore REQUIRED)
+find_package(PkgConfig REQUIRED)
+pkg_check_modules(EXPLORE REQUIRED IMPORTED_TARGET nic82540em_explore)
+pkg_check_modules(NIC REQUIRED IMPORTED_TARGET nic82540em)
+add_executable(package TEST)
+target_link_libraries(package nic82540em_explore::nic82540em_explore)
+add_executable(pkg TEST)
+target_link_libraries(pkg PkgConfig::EXPLORE)
+add_executable(first FIRST)
+target_link_libraries(first PkgConfig::NIC)
+foreach(test package pkg)
+    add_test(NAME ${test} COMMAND ${test} --explore every)
+endforeach()
+add_test(NAME invalid COMMAND package --no-such-option)
+"""
+
+
+def explorer_by_cmake(library):
+    """CMake links a test with the explorer by find_package and PkgConfig::, with each C compiler that is there. CTest
+    runs it, and writes JUnit's form.
+    """
+    if not all(library.is_there(tool, "the explorer by CMake") for tool in ("cmake", "ctest", "pkg-config")):
+        return
+    for compiler in "gcc", "clang":
+        if not library.is_there(compiler, "the explorer by CMake"):
+            continue
+        folder = f"explore-{compiler}"
+        os.makedirs(library.path(folder))
+        text = EXPLORE.replace("TEST)", f"{os.path.join(TOP, 'examples', 'explore', 'my_test.c')})")
+        text = text.replace("FIRST", os.path.join(EXAMPLES, "first.c"))
+        library.put(os.path.join(folder, "CMakeLists.txt"), text.encode())
+        made = library.path(os.path.join(folder, "made"))
+        env = {"PKG_CONFIG_PATH": os.path.join(library.root, "lib", "pkgconfig"), "NIC_EXPLORE": "every"}
+        words = [["cmake", "-S", library.path(folder), "-B", made, f"-DCMAKE_PREFIX_PATH={library.root}",
+                  f"-DCMAKE_C_COMPILER={compiler}"], ["cmake", "--build", made]]
+        for line in words:
+            status, _, said = library.execute(*line, env=env, limit=600)
+            library.check(f"{compiler}: {line[1]}", (status, status and said[-2000:]), (0, 0))
+        library.prints(f"{compiler}: PkgConfig:: of the library", [os.path.join(made, "first")], output_of("first"))
+        status, _, _ = library.execute("ctest", "--test-dir", made, "--output-junit", "junit.xml", env=env, limit=600)
+        with open(os.path.join(made, "junit.xml")) as file:
+            xml = file.read()
+        library.check(f"{compiler}: CTest", (status, re.findall(r'tests="(\d+)"\s+failures="(\d+)"', xml)),
+                      (8, [("3", "1")]))
+
+
 def by_pip(library):
     """pip installs the Python package without the internet, with the library in it. The code of docs/LIBRARY.md runs
     with it. Without the library, pip fails, and names the file.
@@ -193,6 +242,7 @@ def by_pip(library):
     code = re.search(r"```python\n(.*?)```", text_of("docs", "LIBRARY.md"), re.S)[1]
     installed = ["env", "-u", "NIC82540EM_LIB", f"PYTHONPATH={target}", sys.executable, "-B", "-c", code]
     library.prints("the package: runs", installed, "True 0x80\n")
+    library.check("the package has types", os.path.exists(os.path.join(target, "nic82540em", "py.typed")), True)
     ran = install(library.folder)
     is_told = "libnic82540em.so isn't in" in ran.stderr
     library.check("pip without the library", (ran.returncode != 0, is_told), (True, True))
@@ -238,4 +288,4 @@ def examples_in_other_languages(library):
 
 
 PARTS = (calls_in_examples, refused_memory, examples_in_c, fuzzers, examples_in_other_languages, by_pkg_config,
-         by_cmake, by_pip)
+         by_cmake, explorer_by_cmake, by_pip)

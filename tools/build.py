@@ -1,14 +1,17 @@
 """Builds nicbench unless it is built, and runs it with WORDS in the caller's folder.
 
-usage: python3 tools/build.py [--build | --prove] [WORDS..]; `./nicbench` calls it
+usage: python3 tools/build.py [--build | --prove | --release] [WORDS..]; `./nicbench` calls it
 
 `--prove` builds the proved program. `--build`, and a call without these words, make a quick build of the same sources
 if there is no program of them. A quick build has no proof, but run-time checks. If it fails, the proved program is
 built. A second call during a build waits for the build. The environment variable RT may name another `rt`. BUILT may
 name a program that `rt ci` has proved and built. It is taken in place of a build if it is newer than all sources.
 
-`--build` or `--prove` without WORDS doesn't run the program, and the exit status is 0. Otherwise the exit status is the
-program's. It is always 70 if no program could be built.
+Without an `rt` on the PATH, the system's C compiler builds the proved program from the folder dist. This needs the
+sources from which dist was written. `--release` builds and runs the program of dist, whatever has changed since.
+
+With one of these options and no WORDS, the program isn't run, and the exit status is 0. Otherwise the exit status is
+the program's. It is always 70 if no program could be built.
 """
 
 from __future__ import annotations
@@ -19,6 +22,7 @@ import shutil
 import subprocess
 import sys
 
+import dist
 import prove
 import quick
 import sources
@@ -28,6 +32,8 @@ import sources
 NAMED = os.path.join(sources.BUILD, sources.PROGRAM)
 PROVED = os.path.join(sources.BUILD, "program", sources.PROGRAM)
 QUICK = os.path.join(sources.BUILD, "quick", sources.PROGRAM)
+# The program of dist. Its stamp is the checksum of the sources, or that of the packed release if they have changed.
+RELEASE = os.path.join(sources.BUILD, "release", sources.PROGRAM)
 # The state of the sources from which NAMED was built. `./nicbench` compares it, and then needs no checksum.
 STATE = os.path.join(sources.BUILD, "state")
 RT = os.environ.get("RT", "rt")
@@ -98,17 +104,31 @@ def build_quick(crates: dict[str, str], checksum: str) -> None:
     tell("this build is not proved: `./nicbench --prove` makes the proved one")
 
 
+def build_release(checksum: str, is_wanted: bool) -> None:
+    """Builds the program of dist, if the sources haven't changed since or if the release is wanted as it is."""
+    try:
+        files = dist.release(sources.PROGRAM, is_wanted, "./nicbench --release")
+        mark = dist.digest(sources.PROGRAM) if dist.changed(sources.PROGRAM, files) else checksum
+        if not is_built(RELEASE, mark):
+            tell(f"compiling the proved program of {dist.named(files)}: some ten seconds")
+            dist.build_program(files, RELEASE)
+            stamp(RELEASE, mark)
+    except (dist.NoRelease, OSError) as error:
+        stop(f"there is no `{RT}`, the command of the Rattle toolchain, to build the program, and {error}"
+             if not is_wanted else str(error))
+
+
 def is_there(with_proof: bool, checksum: str) -> bool:
-    return is_built(PROVED, checksum) or (not with_proof and is_built(QUICK, checksum))
+    return is_built(PROVED, checksum) or (not with_proof and any(is_built(it, checksum) for it in (RELEASE, QUICK)))
 
 
 def build(with_proof: bool, crates: dict[str, str], checksum: str) -> None:
     """Builds the program, or takes the program that BUILT names if it is newer than all sources. If another call
     builds, waits until that build ends. If the wanted program is there then, does nothing else.
     """
-    if not shutil.which(RT):
-        stop(f"the program must be built, and `{RT}` isn't on the PATH: it is the command of the Rattle toolchain "
-             "(README.md names the kit)")
+    has_toolchain = shutil.which(RT) is not None
+    if with_proof and not has_toolchain:
+        stop(f"`{RT}` isn't on the PATH: it is the command of the Rattle toolchain")
     with open(os.path.join(sources.BUILD, "lock"), "w") as lock:
         try:
             fcntl.flock(lock, fcntl.LOCK_EX | fcntl.LOCK_NB)
@@ -121,6 +141,8 @@ def build(with_proof: bool, crates: dict[str, str], checksum: str) -> None:
         if is_newer(given, crates):
             tell(f"taking {given}, which is newer than all sources")
             keep(given, checksum)
+        elif not has_toolchain:
+            build_release(checksum, False)
         elif with_proof:
             build_proved(crates, checksum)
         else:
@@ -143,9 +165,7 @@ def state() -> bytes:
 
 
 def note_state(found: bytes) -> None:
-    """Notes the state in the file STATE, if there is a state and the folder can be written."""
-    if not found:
-        return
+    """Notes the state in the file STATE, if the folder can be written."""
     new = f"{STATE}.{os.getpid()}"
     try:
         with open(new, "wb") as file:
@@ -157,17 +177,22 @@ def note_state(found: bytes) -> None:
 
 def main() -> None:
     words = sys.argv[1:]
-    builds, with_proof = words[:1] in (["--build"], ["--prove"]), words[:1] == ["--prove"]
-    words = words[1:] if builds else words
+    builds, with_proof = words[:1] in (["--build"], ["--prove"], ["--release"]), words[:1] == ["--prove"]
+    is_release, words = words[:1] == ["--release"], words[1:] if builds else words
     crates = sources.crates()
     os.makedirs(sources.BUILD, exist_ok=True)
     # The state is read first. If a file changes before the checksum is made, the next call finds another state.
     found, checksum = state(), sources.checksum(crates)
-    if not is_there(with_proof, checksum):
+    if is_release:
+        build_release(checksum, True)
+    elif not is_there(with_proof, checksum):
         build(with_proof, crates, checksum)
-    program = PROVED if is_built(PROVED, checksum) else QUICK
+    proved = next((it for it in (PROVED, RELEASE) if is_built(it, checksum)), QUICK)
+    program = RELEASE if is_release else proved
+    # The program of an older release isn't that of these sources. Then the state is empty, which fits no sources.
+    note_state(b"")
     give_name(program)
-    note_state(found)
+    note_state(found if is_built(program, checksum) else b"")
     if builds and not words:
         return
     os.execv(program, [program, *words])

@@ -8,6 +8,8 @@ crates below the library:
 With crates from one of the last two places, the toolchain's `rattle` proves the missing ones and the library. If
 nothing is found or fits, `rt ci` proves all crates in a copy.
 
+The compiler's assembly of an archive is kept with it, for `tools/amalgamation`.
+
 usage: python3 tools/library_proof.py begin | passed; `./test` notes that its `rt ci` begins, and that it has passed
 """
 
@@ -23,11 +25,14 @@ import tempfile
 import time
 from typing import Callable, Optional
 
+import assembly
 import prove
 import sources
 from quick import kit_of
 
 KEPT = os.path.join(sources.BUILD, "proved-library")
+# What `tools/library --quick` has built last, as an object
+QUICK = os.path.join(sources.BUILD, "quick-library.o")
 # The processors for which the toolchain builds a library, as it names them
 TARGETS = {"x86_64": "x86_64-unknown-linux-gnu", "aarch64": "aarch64-unknown-linux-gnu"}
 LOG = os.path.join(sources.BUILD, "library-proved.log")
@@ -64,14 +69,13 @@ def out(name: str, *path: str) -> str:
 
 
 def build_by_rt(rt: str, name: str, crates: dict[str, str], archive: str, target: str) -> None:
-    """Lets `rt lib` prove a static library and the crates below it, and builds the archive for the target."""
+    """Lets `rt lib` prove a static library and the crates below it. Then builds the archive for the target, over what
+    `rt lib` has kept of this proof.
+    """
+    run(rt, "lib", cwd=os.path.join(sources.CRATES, name))
+    rlibs = {other: out(other, "rlib", f"{other}.rlib") for other in crates if other != name}
     folder = os.path.join(sources.CRATES, name)
-    run(rt, "lib", cwd=folder)
-    if target == sources.HOST:
-        shutil.copyfile(out(name, f"lib{name}.a"), archive)
-    else:
-        rlibs = {other: out(other, "rlib", f"{other}.rlib") for other in crates if other != name}
-        compile_crate(rt, name, crates, rlibs, archive, folder, target)
+    compile_crate(rt, name, crates, rlibs, archive, folder, target, out(name, "incremental"))
 
 
 def by_rt(rt: str, crates: dict[str, str], archive: str, target: str, tell: Callable[[str], None]) -> bool:
@@ -130,25 +134,43 @@ def proved_with_program(rt: str, folder: str) -> dict[str, str]:
 
 
 def compile_crate(rt: str, name: str, crates: dict[str, str], rlibs: dict[str, str], path: str, folder: str,
-                  target: str = sources.HOST) -> None:
+                  target: str = sources.HOST, kept: str = "") -> None:
     """Proves and builds a crate over the libraries of the crates below it, at `path`. A static library becomes an
-    archive, another crate a folder.
+    archive, with its assembly next to it; another crate becomes a folder. `kept` is the folder in which `rt` keeps its
+    work on this crate.
     """
-    kit, is_static = kit_of(shutil.which(rt) or rt), "staticlib" in crates[name].split(":")[0]
+    kit = kit_of(shutil.which(rt) or rt)
     words = [os.path.join(kit, "bin", "rattle"), "build", "--crate-name", name, "src/lib.rt"]
-    if is_static:
-        words += ["--crate-type", "staticlib", "--toolchain", os.path.join(kit, "toolchain")]
-        words += ["--target", TARGETS[target]] * (target != sources.HOST)
-    else:
-        words += ["--statements"]
-    for other in ("std", *below(crates[name])):
+    words += [*uses(kit, crates[name], rlibs), "--jobs", "2"]
+    if "staticlib" not in crates[name].split(":")[0]:
+        run(*words, "--statements", "-o", path, cwd=folder)
+        return
+    words += ["--crate-type", "staticlib", *target_words(target)]
+    words += ["--incremental", kept] * os.path.isdir(kept)
+    with tempfile.TemporaryDirectory() as work:
+        try:
+            keeper = assembly.Keeper(kit, work)
+        except OSError as error:
+            raise LibraryFailed(f"the toolchain of {rt} isn't laid out as expected: {error}") from error
+        run(*words, "--toolchain", keeper.toolchain, "-o", path, cwd=folder)
+        keeper.keep(path)
+
+
+def target_words(target: str) -> list[str]:
+    """The option of `rattle` for a processor."""
+    return [] if target == sources.HOST else ["--target", TARGETS[target]]
+
+
+def uses(kit: str, line: str, rlibs: dict[str, str]) -> list[str]:
+    """The options of `rattle` for what the crate of this line of crates.txt uses: libraries, and the logic."""
+    words = []
+    for other in ("std", *below(line)):
         words += ["--extern", f"{other}={rlibs.get(other) or os.path.join(kit, 'rlibs', f'{other}.rlib')}"]
     for rlib in rlibs.values():
         words += ["-L", f"dependency={os.path.dirname(rlib)}"]
-    words += ["-L", f"dependency={os.path.join(kit, 'rlibs')}", "--logic-built", os.path.join(kit, "logic_built"),
-              "--antt-project", os.path.join(kit, "rattle", "logic", "antt-project.json"),
-              "--jobs", "2", "-o", path]
-    run(*words, cwd=folder)
+    return [*words, "-L", f"dependency={os.path.join(kit, 'rlibs')}",
+            "--logic-built", os.path.join(kit, "logic_built"),
+            "--antt-project", os.path.join(kit, "rattle", "logic", "antt-project.json")]
 
 
 def over(rt: str, crates: dict[str, str], found: dict[str, str], archive: str, work: str, target: str,
@@ -238,8 +260,31 @@ def build(rt: str, archive: str, target: str, tell: Callable[[str], None]) -> No
     if not from_proved(rt, crates, archive, target, tell):
         from_nothing(rt, crates, archive, target, tell)
     os.makedirs(os.path.dirname(known), exist_ok=True)
-    shutil.copyfile(archive, known)
+    for made, copy in ((archive, known), (assembly.path_of(archive), assembly.path_of(known))):
+        shutil.copyfile(made, copy)
     note_sources(rt, crates, known)
+
+
+def keep_quick(crates: dict[str, str], made: str) -> None:
+    """Keeps an object of the library that was built without proof, and its assembly, for `tools/amalgamation`."""
+    os.makedirs(os.path.dirname(QUICK), exist_ok=True)
+    shutil.copyfile(assembly.path_of(made), assembly.path_of(QUICK))
+    shutil.copyfile(made, QUICK)
+    prove.write(f"{QUICK}.sources", sources.checksum(crates))
+
+
+def assembled(rt: str, name: str, target: str, tell: Callable[[str], None]) -> str:
+    """Makes the proved archive of a static library, unless it is kept with its assembly. Returns the path of the kept
+    archive; its assembly is next to it.
+    """
+    known = kept(name, target)
+    if not os.path.exists(assembly.path_of(known)) and os.path.exists(f"{known}.sources"):
+        os.remove(f"{known}.sources")
+    if name == sources.SEARCH:
+        return search(rt, target, tell)
+    with tempfile.TemporaryDirectory() as work:
+        build(rt, os.path.join(work, os.path.basename(known)), target, tell)
+    return known
 
 
 if __name__ == "__main__":

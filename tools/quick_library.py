@@ -14,6 +14,7 @@ import shutil
 import tempfile
 from typing import Iterable
 
+import assembly
 import sources
 from quick import QuickBuildFailed, Steps, flags_of, kit_of, make_bitcode, run_all
 
@@ -120,10 +121,11 @@ def exported(text: str, names: Iterable[str]) -> str:
 
 
 def build(rt: str, crates: dict[str, str], target: str, steps: Steps) -> None:
-    """Builds the object of the library without proof as the file `target`."""
+    """Builds the object of the library without proof as the file `target`, with its assembly next to it."""
     kit = kit_of(rt)
-    clang = os.path.join(kit, "toolchain", "bin", "clang")
     with tempfile.TemporaryDirectory() as work, tempfile.TemporaryDirectory() as top:
+        keeper = assembly.Keeper(kit, os.path.join(work, "keeper"))
+        clang = keeper.clang
         folder, names = copy(crates, top)
         make_bitcode(rt, folder, LEAST_LIBRARY_BYTES, work, steps)
         flags = ["-fPIC" if flag == "-fPIE" else flag for flag in flags_of(work, kit)]
@@ -135,3 +137,4 @@ def build(rt: str, crates: dict[str, str], target: str, steps: Steps) -> None:
         flags = ["module.ll" if flag == "module.bc" else flag for flag in flags]
         run_all(work, steps, [("optimizing", [clang, *flags])])
         shutil.copyfile(os.path.join(work, "module.o"), target)
+        keeper.keep(target)

@@ -20,6 +20,19 @@ NAME, FILE = "nic82540em", "libnic82540em.so"
 HERE = os.path.dirname(os.path.abspath(__file__))
 TOP = os.path.dirname(os.path.dirname(HERE))
 SUMMARY = "An Intel 82540EM and its host's memory in the process of a driver"
+README = b"""\
+The adapter of nicbench for tests of drivers: calls `Nic.read`, `Nic.write`, `Nic.load`, `Nic.store` and `Nic.step`, and a
+class `Adapter` with the methods of the class for the pipe of `nicbench serve`.
+
+```python
+from nic82540em import Nic
+
+with Nic() as nic:
+    nic.write(0xD0, 0x80)  # IMS: unmask RXT0
+    nic.write(0xC8, 0x80)  # ICS: record RXT0
+    assert nic.read(0xC0) == 0x80
+```
+"""
 # The library is built only for x86-64.
 TAG = "py3-none-linux_x86_64"
 # The first moment that a ZIP archive can hold
@@ -76,9 +89,13 @@ def build_wheel(wheel_directory: str, config_settings: Optional[Mapping[str, str
     info = f"{NAME}-{version}.dist-info"
     files = {
         f"{NAME}/__init__.py": bytes_of(os.path.join(HERE, NAME, "__init__.py")),
+        f"{NAME}/py.typed": b"",
         f"{NAME}/{FILE}": bytes_of(os.path.join(folder, FILE)),
         f"{info}/METADATA": f"Metadata-Version: 2.1\nName: {NAME}\nVersion: {version}\nSummary: {SUMMARY}\n"
-                            "Requires-Python: >=3.8\n".encode(),
+                            "Requires-Python: >=3.8\nClassifier: Typing :: Typed\n"
+                            "Classifier: Operating System :: POSIX :: Linux\n"
+                            "Classifier: Topic :: Software Development :: Testing\n"
+                            "Description-Content-Type: text/markdown\n\n".encode() + README,
         f"{info}/WHEEL": f"Wheel-Version: 1.0\nGenerator: {NAME}\nRoot-Is-Purelib: false\nTag: {TAG}\n".encode(),
     }
     files[f"{info}/RECORD"] = record_of(files, f"{info}/RECORD")

@@ -54,19 +54,26 @@ class Tree:
             os.chmod(inner, 0o755)
 
 
+def tar_bytes(tree, top, moment):
+    """A tar with all files and links in the folder `top`. `moment` is their time, in seconds since 1970."""
+    packed = io.BytesIO()
+    with tarfile.open(fileobj=packed, mode="w", format=tarfile.PAX_FORMAT) as archive:
+        for path in sorted([*tree.files, *tree.links]):
+            member = tarfile.TarInfo(f"{top}/{path}")
+            member.mtime, member.mode = moment, 0o755 if path in tree.programs else 0o644
+            if path in tree.links:
+                member.type, member.linkname, member.mode = tarfile.SYMTYPE, tree.links[path], 0o777
+                archive.addfile(member)
+            else:
+                member.size = len(tree.files[path])
+                archive.addfile(member, io.BytesIO(tree.files[path]))
+    return packed.getvalue()
+
+
 def write_tar(tree, top, target, moment):
     """Writes a tar.gz with all files and links in the folder `top`. `moment` is their time, in seconds since 1970."""
     with open(f"{target}.new", "wb") as file, gzip.GzipFile("", "wb", 9, file, moment) as packed:
-        with tarfile.open(fileobj=packed, mode="w", format=tarfile.PAX_FORMAT) as archive:
-            for path in sorted([*tree.files, *tree.links]):
-                member = tarfile.TarInfo(f"{top}/{path}")
-                member.mtime, member.mode = moment, 0o755 if path in tree.programs else 0o644
-                if path in tree.links:
-                    member.type, member.linkname, member.mode = tarfile.SYMTYPE, tree.links[path], 0o777
-                    archive.addfile(member)
-                else:
-                    member.size = len(tree.files[path])
-                    archive.addfile(member, io.BytesIO(tree.files[path]))
+        packed.write(tar_bytes(tree, top, moment))
     os.replace(f"{target}.new", target)
 
 
@@ -81,8 +88,11 @@ def write_deb(tree, control, target, moment):
         os.makedirs(os.path.join(inner, "DEBIAN"))
         with open(os.path.join(inner, "DEBIAN", "control"), "w") as file:
             file.write("".join(f"{name}: {value}\n" for name, value in {**control, "Installed-Size": size}.items()))
-        for path in (os.path.join(inner, "DEBIAN", "control"), os.path.join(inner, "DEBIAN"), inner):
-            os.utime(path, (moment, moment))
+        # the package has a shared library, which the loader finds by its cache
+        with open(os.path.join(inner, "DEBIAN", "triggers"), "w") as file:
+            file.write("activate-noawait ldconfig\n")
+        for path in ("DEBIAN/control", "DEBIAN/triggers", "DEBIAN", "."):
+            os.utime(os.path.join(inner, path), (moment, moment))
         made = os.path.join(folder, "package.deb")
         subprocess.run(["dpkg-deb", "--root-owner-group", "-Zgzip", "--build", inner, made], check=True,
                        stdout=subprocess.DEVNULL, env={**os.environ, "SOURCE_DATE_EPOCH": str(moment)})

@@ -82,7 +82,8 @@ def debian_tree(tree):
         made.add(target, data, path in tree.programs)
     made.add("usr/bin/nicbench-races", FINDER, True)
     made.add("usr/share/doc/nicbench/changelog.gz", gzip.compress(tree.files["CHANGELOG.md"], 9, mtime=0))
-    made.add(f"usr/lib/python3/dist-packages/{NAME}/__init__.py", tree.files[f"bindings/python/{NAME}/__init__.py"])
+    for name in ("__init__.py", "py.typed"):
+        made.add(f"usr/lib/python3/dist-packages/{NAME}/{name}", tree.files[f"bindings/python/{NAME}/{name}"])
     made.links.update({
         "usr/share/nicbench/bin/nicbench": "../../../bin/nicbench",
         "usr/share/nicbench/.build/nicbench": "/usr/bin/nicbench",

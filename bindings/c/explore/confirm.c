@@ -89,7 +89,7 @@ static bool wait_for(pid_t client, pid_t server, int pipes[PIPES][2], char *faul
     close(pipes[CLIENTS_ERRORS][0]), close(pipes[SERVERS_ERRORS][0]);
     waitpid(client, &status, 0);
     if (WIFSIGNALED(status))
-        snprintf(fault, room, "ended by SIG%s", sigabbrev_np(WTERMSIG(status)));
+        snprintf(fault, room, "ended by SIG%s", xi_signal(WTERMSIG(status)));
     waitpid(server, &status, 0);
     return WIFEXITED(status) && WEXITSTATUS(status) == 0;
 }

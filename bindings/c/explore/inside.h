@@ -236,6 +236,9 @@ void xi_listen(void);
 int xi_stopped(void);
 const char *xi_why(void);
 
+/* signals.c: names of signals */
+const char *xi_signal(int number);
+
 /* confirm.c: schedules that are played by `nicbench serve` */
 const char *xi_confirm(const char *program, const struct deviation *path, unsigned count, char *fault, size_t room);
 

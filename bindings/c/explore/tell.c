@@ -54,7 +54,7 @@ const char *xi_why(void)
     static char text[64];
 
     if (stopped)
-        snprintf(text, sizeof text, "ended by SIG%s", sigabbrev_np(stopped));
+        snprintf(text, sizeof text, "ended by SIG%s", xi_signal(stopped));
     else
         snprintf(text, sizeof text, "ended by --states %llu", (unsigned long long)xi_given.states);
     return text;

@@ -45,6 +45,13 @@ extern "C" {
     fn x_forget();
     fn x_memory(size: usize) -> *mut c_void;
     fn x_inside() -> bool;
+    fn fork() -> c_int;
+    fn getpid() -> c_int;
+    fn getppid() -> c_int;
+    fn prctl(option: c_int, ...) -> c_int;
+    fn waitpid(child: c_int, status: *mut c_int, options: c_int) -> c_int;
+    fn fflush(file: *mut c_void) -> c_int;
+    fn _exit(status: c_int) -> !;
 }
 
 /// The accesses of a driver to its adapter and its host's memory. Another implementation may use a real adapter.
@@ -174,19 +181,49 @@ extern "C" fn run<T: Fn(Explored)>(test: *mut c_void) -> *const c_char {
 /// Searches the schedules of a test, as the words of the program ask for. Returns the exit status.
 pub fn explore<T: Fn(Explored)>(test: T) -> i32 {
     let words: Vec<CString> = std::env::args().map(|word| CString::new(word).expect("a word has a null byte")).collect();
-    explore_by(&words, test)
+    explore_by(&words, &test)
 }
 
 /// Searches the schedules of a test in a test of `cargo test`, as the variables NIC_EXPLORE, NIC_REPLAY, NIC_OUT and
-/// NIC_SERVE ask for. Returns whether the exit status is 0. Make one such call in a process: run `cargo test --
-/// --test-threads 1 NAME` for each.
+/// NIC_SERVE ask for. Returns whether the exit status is 0. Each search has a process of its own, so there may be
+/// several tests, which run at the same time. To play a schedule again: `NIC_REPLAY=FILE cargo test NAME`.
 pub fn explored<T: Fn(Explored)>(test: T) -> bool {
-    explore_by(&[c"cargo test".to_owned()], test) == 0
+    in_process(|| explore_by(&[c"cargo test".to_owned()], &test)) == 0
 }
 
-fn explore_by<T: Fn(Explored)>(words: &[CString], test: T) -> i32 {
+/// Runs a search in a new process, which ends with this thread, and returns its exit status. The explorer uses fixed
+/// addresses, signal handlers and variables of its process.
+fn in_process(search: impl Fn() -> i32) -> i32 {
+    const PR_SET_PDEATHSIG: c_int = 1;
+    const SIGTERM: c_int = 15;
+    let mut status = 0;
+    unsafe {
+        fflush(std::ptr::null_mut());
+        let (parent, child) = (getpid(), fork());
+        if child == 0 {
+            prctl(PR_SET_PDEATHSIG, SIGTERM);
+            if getppid() != parent {
+                _exit(128 + SIGTERM);
+            }
+            let ended = search();
+            fflush(std::ptr::null_mut());
+            _exit(ended);
+        }
+        assert!(child > 0, "no process for the search: {}", std::io::Error::last_os_error());
+        while waitpid(child, &mut status, 0) != child {
+            let error = std::io::Error::last_os_error();
+            assert!(error.kind() == std::io::ErrorKind::Interrupted, "no status of the search: {error}");
+        }
+    }
+    match status & 0x7F {
+        0 => status >> 8 & 0xFF,
+        signal => 128 + signal,
+    }
+}
+
+fn explore_by<T: Fn(Explored)>(words: &[CString], test: &T) -> i32 {
     let pointers: Vec<*const c_char> = words.iter().map(|word| word.as_ptr()).collect();
     set_hook(Box::new(|_| {}));
-    let test: *const T = &test;
+    let test: *const T = test;
     unsafe { nic82540em_explore(pointers.len() as c_int, pointers.as_ptr(), run::<T>, test as *mut c_void) }
 }
