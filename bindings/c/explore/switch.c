@@ -11,11 +11,13 @@
 #include <ucontext.h>
 
 enum { STACK_SIZE = 1 << 20, DEEPEST_CALLS = 1 << 15, LOOKS = 64 };
-#define STACK ((char *)0x201000000000)
+#define STACK ((char *)XI_STACK)
 
 static bool is_test; /* whether the test runs now */
+volatile unsigned xi_entries;
 static void (*begins_with)(void);
 static void *test_top;
+static size_t depth; /* how far calls go below the top of the stack, and a quarter more */
 
 /* The end of the stack of the test, which is made by the first call */
 static char *end_of_stack(void)
@@ -31,7 +33,8 @@ static char *end_of_stack(void)
     return end;
 }
 
-bool x_inside(void)
+/* Whether the stack of the test is used: by the test, or by the explorer for it */
+bool xi_is_test(void)
 {
     return is_test;
 }
@@ -63,7 +66,6 @@ static size_t depth_of_calls(size_t most)
  * calls of this function measures how far they go. */
 void xi_clear_stack(void)
 {
-    static size_t depth;
     static unsigned turn;
     size_t most = (size_t)((char *)test_top - STACK), seen;
 
@@ -75,6 +77,22 @@ void xi_clear_stack(void)
         depth = seen > depth ? seen + seen / 4 : depth;
     }
     memset((char *)test_top - (depth < most ? depth : most), 0, depth < most ? depth : most);
+}
+
+/* Clears what calls have left below this function's frame, on the stack of the test. */
+__attribute__((noinline)) void xi_clear_below(void)
+{
+#ifdef __x86_64__
+    uint64_t words = depth / 8, zero = 0;
+    char *at;
+
+    __asm__ volatile("mov %%rsp, %0\n sub %3, %0\n rep stosq" : "=&D"(at), "+c"(words), "+a"(zero) : "r"(depth & ~(size_t)7) : "memory");
+#elif defined(__aarch64__)
+    uint64_t at, size = depth & ~(size_t)15;
+
+    __asm__ volatile("mov %0, sp\n sub %0, %0, %1\n 1: cbz %1, 2f\n stp xzr, xzr, [%0], #16\n sub %1, %1, #16\n b 1b\n 2:"
+                     : "=&r"(at), "+r"(size) : : "memory");
+#endif
 }
 
 #if defined(__x86_64__) || defined(__aarch64__)
@@ -114,9 +132,9 @@ void xi_start(void (*function)(void))
 
 void xi_to_test(void)
 {
-    is_test = true;
+    is_test = true, xi_entries++, xi_at_test(true);
     xi_switch(&explorer_top, test_top);
-    is_test = false;
+    is_test = false, xi_at_test(false);
 }
 
 void xi_to_explorer(void)
@@ -137,9 +155,9 @@ void xi_start(void (*function)(void))
 
 void xi_to_test(void)
 {
-    is_test = true;
+    is_test = true, xi_entries++, xi_at_test(true);
     swapcontext(&explorer_context, &test_context);
-    is_test = false;
+    is_test = false, xi_at_test(false);
 }
 
 void xi_to_explorer(void)
