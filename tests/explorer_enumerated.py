@@ -13,7 +13,7 @@ from harness import TOP
 
 SOURCES = os.path.join(TOP, "tests", "explorer")
 NEVER = "99"
-SEEDS = 40
+SEEDS = 24
 SEARCHES = ["every"], ["1"], ["2"], ["2", "--holds"]
 
 
@@ -93,4 +93,4 @@ def enumerated(bench):
                 least = (small if search[0] == "every" else wanted).outcomes[number]
                 compare_outcome(bench, explorer, seed, list(search), number, least)
     print(f"enumerated: {schedules} schedules, {outcomes} outcomes; {skipped} searches were too long or trivial")
-    bench.check("enumerated: there are many", (schedules > 100000, outcomes > 80), (True, True))
+    bench.check("enumerated: there are many", (schedules > 100000, outcomes > 60), (True, True))

@@ -25,7 +25,7 @@ REFUSED = {"file": "opens a file (openat)", "stream": "opens a file (openat)", "
            "input": "reads from a file (read)",
            "shared": "maps memory (mmap)", "random": "asks for random numbers (getrandom)"}
 THREADS = ["-O0", "-ftrivial-auto-var-init=zero", "-pthread"]
-SAVED = "static", "thread-local", "main", "rand", "printf", "stream in memory"
+SAVED = "static", "mask", "thread-local", "main", "rand", "printf", "stream in memory"
 WRONG_CALLS = {"x_choose": "x_choose: `count` isn't a number from 1 to 16", "x_load": "x_load: `into` is NULL",
                "x_store": "x_store: the driver stores bytes outside of memory", "x_arrive": "x_arrive: `frame` is NULL",
                "x_offer": "x_offer: `frame` is NULL", "x_put": "x_put: `into` is NULL",
@@ -150,6 +150,10 @@ def passes(bench):
         bench.check(f"passes: {name}, again", (status, again["fault"], errors), (FOUND, result["fault"], ""))
         status, out, _ = bench.run(test, name, "wrong", "--replay", found, "--log")
         bench.check(f"passes: {name}, its log", (status, out.splitlines()[-1]), (FOUND, result["fault"]))
+    found = bench.source("found", "1.1 rx before read STATUS\n1.1+1 late irq before handler\n")
+    status, out, errors = bench.run(test, "late", "wrong", "--replay", found, "--serve", bench.program)
+    wanted = f"{bench.program} serve can't play it: it has no handlers, and no places but accesses and requests"
+    bench.check("passes: late, served", (status, out.splitlines()[-1], errors), (FOUND, wanted, ""))
     status, result, errors = result_of(bench, test, "overrun", "--explore", "every")
     bench.check("passes: overrun", (status, result["result"], errors), (PASSES, "passes", ""))
 
@@ -172,6 +176,11 @@ def calls(bench):
         got = bench.run(test, what, "--explore", "every", data="x")
         wanted = f"explore: the test {why}: it can't be saved with the state of the test\n"
         bench.check(f"calls: {what}", got, (NOT_RUN, "", wanted))
+    errors = bench.source("errors.txt", "")
+    status, out, _ = bench.run("sh", "-c", f"'{test}' position --explore every --json 2> '{errors}'")
+    result = json.loads(out)
+    bench.check("calls: the search is wrong", (status, result["result"], result["fault"]),
+                (DIFFERS, "differs", "a bit was lost"))
     for what, why in WRONG_CALLS.items():
         status, result, errors = result_of(bench, test, what, "--explore", "1")
         bench.check(f"calls: wrong {what}", (status, result["fault"], errors), (FOUND, why, ""))

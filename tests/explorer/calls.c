@@ -6,6 +6,7 @@
 #include <fcntl.h>
 #include <nic82540em_explore.h>
 #include <pthread.h>
+#include <signal.h>
 #include <stdio.h>
 #include <stdlib.h>
 #include <string.h>
@@ -97,6 +98,25 @@ static void call_wrongly(const char *what)
         x_memory(SIZE_MAX);
 }
 
+/* Keeps whether a frame was finished early: in the signal mask, which is saved, or in the position of standard error,
+ * which isn't. Returns whether this was lost. */
+static bool is_lost(bool by_mask)
+{
+    sigset_t all, now;
+    bool is_early = status() & NIC_RXD_DD, is_kept;
+
+    sigfillset(&all), sigemptyset(&now);
+    if (is_early && by_mask)
+        sigprocmask(SIG_SETMASK, &all, NULL);
+    if (is_early && !by_mask)
+        lseek(STDERR_FILENO, 1, SEEK_SET);
+    x_choose(2);
+    sigprocmask(SIG_BLOCK, NULL, &now);
+    is_kept = by_mask ? sigismember(&now, SIGUSR1) : lseek(STDERR_FILENO, 0, SEEK_CUR) == 1;
+    sigprocmask(SIG_UNBLOCK, &all, NULL), lseek(STDERR_FILENO, 0, SEEK_SET);
+    return is_early && !is_kept;
+}
+
 static void spin(void)
 {
     for (volatile bool is_endless = true; is_endless;)
@@ -130,6 +150,8 @@ static const char *test(void *what)
             spin();
         if (!strcmp(what, "assert"))
             assert(!status());
+        if ((!strcmp(what, "mask") && is_lost(true)) || (!strcmp(what, "position") && is_lost(false)))
+            return "a bit was lost";
         x_settle();
         next += status() & NIC_RXD_DD;
         memset(block, 1, 1000 * n + 1);

@@ -50,7 +50,9 @@ static void act(uint32_t what)
 {
     static const uint8_t frame[60] = { 255, 255, 255, 255, 255, 255 };
 
-    switch (what % 12) {
+    uint8_t byte;
+
+    switch (what % 16) {
     case 0:
         hear(x_read(NIC_ICR));
         break;
@@ -73,13 +75,25 @@ static void act(uint32_t what)
         send();
         break;
     case 8:
-        hear(x_choose(2 + what / 12 % 2));
+        hear(x_choose(2 + what / 16 % 2));
         break;
     case 9:
-        hear(x_interrupts(what / 12 % 2));
+        hear(x_interrupts(what / 16 % 2));
         break;
     case 10:
         hear(x_read(NIC_RDH));
+        break;
+    case 11: /* what was left in a buffer */
+        x_load(BUFFERS + 2048 * (what / 16 % 3) + 14, &byte, 1), hear(byte);
+        break;
+    case 12: /* the length in a transmit descriptor, which may be done */
+        x_load(TX_RING + 16 * (what / 16 % 2) + 8, &byte, 1), hear(byte);
+        break;
+    case 13:
+        hear(x_read(what / 16 % 2 ? NIC_GPRC : NIC_GPTC));
+        break;
+    case 14: /* another buffer for a slot that may be in progress */
+        x_store(RX_RING, (uint64_t[]){ BUFFERS + 2048, 0 }, 16), rx = 0;
         break;
     default:
         hear(x_arrive(frame, sizeof frame));
@@ -106,6 +120,8 @@ static const char *test(void *word)
 
     (void)word;
     heard = rx = tx = sent = calls = 0, handlers_seed = draw(&state);
+    for (uint8_t slot = 0; slot < 3; slot++)
+        x_store(BUFFERS + 2048u * slot + 14, &(uint8_t){ (uint8_t)(42 + slot) }, 1);
     for (unsigned slot = 0; slot < SLOTS; slot++)
         x_store(RX_RING + 16 * slot, (uint64_t[]){ BUFFERS + 2048 * slot, 0 }, 16);
     x_write(NIC_RDBAL, RX_RING), x_write(NIC_RDLEN, 16 * SLOTS), x_write(NIC_RDT, SLOTS - 1);
@@ -122,6 +138,7 @@ static const char *test(void *word)
     x_interrupts(true);
     hear((uint32_t)x_settle());
     load_status();
+    act(11 + 16 * draw(&state)), act(11 + draw(&state) % 3);
     hear(x_put_count() + 16 * x_arrived_count());
     outcome = heard % OUTCOMES;
     return outcome == wanted ? "it has the wanted outcome" : NULL;

@@ -27,6 +27,8 @@
 
 enum { ALLOW, BLOCK };
 static volatile char selector = ALLOW;
+static long own_thread; /* the number of the thread that has called the explorer */
+static void *own_pointer; /* its thread-local variables, also in processes that are forked */
 bool xi_prints; /* whether what the test prints is printed */
 
 /* Begins work of the explorer on the stack of the test: system calls are let through. Returns what xi_resume needs. */
@@ -53,6 +55,20 @@ void xi_at_test(bool is_test)
 bool x_inside(void)
 {
     return selector == BLOCK;
+}
+
+void xi_know_thread(void)
+{
+    own_thread = syscall(SYS_gettid), own_pointer = __builtin_thread_pointer();
+}
+
+/* Whether a signal has come to another thread than the explorer's: then it is sent on. */
+bool xi_is_elsewhere(int number)
+{
+    if (__builtin_thread_pointer() == own_pointer)
+        return false;
+    syscall(SYS_tgkill, getpid(), own_thread, number);
+    return true;
 }
 
 #ifdef __x86_64__
@@ -110,7 +126,7 @@ static bool is_harmless(long number, const long *words)
         return is_terminal(words[0]);
     case SYS_newfstatat:
         return is_terminal(words[0]) && has_no_name(words[1]);
-    case SYS_rt_sigprocmask: case SYS_rt_sigreturn: case SYS_tgkill: case SYS_gettid: case SYS_getpid: case SYS_futex:
+    case SYS_rt_sigreturn: case SYS_tgkill: case SYS_gettid: case SYS_getpid: case SYS_futex:
     case SYS_sched_yield: case SYS_nanosleep: case SYS_clock_nanosleep: case SYS_exit: case SYS_exit_group: case SYS_madvise:
     case SYS_getuid: case SYS_geteuid: case SYS_getgid: case SYS_getegid: case SYS_getcpu: case SYS_membarrier:
         return true;
@@ -161,6 +177,21 @@ static bool is_thread(long number, const long *words)
     return flags & CLONE_THREAD;
 }
 
+/* Changes the test's signal mask, which is a part of its state, and not the process's. */
+static long mask_call(const long *words)
+{
+    const uint64_t *set = (const uint64_t *)words[1];
+    uint64_t *before = (uint64_t *)words[2], value = set ? *set : 0;
+
+    if (before)
+        *before = xi_state->signal_mask;
+    if (set && words[0] == SIG_SETMASK)
+        xi_state->signal_mask = value;
+    else if (set)
+        xi_state->signal_mask = words[0] == SIG_BLOCK ? xi_state->signal_mask | value : xi_state->signal_mask & ~value;
+    return 0;
+}
+
 static _Noreturn void refuse(long number, const long *words)
 {
     static char text[128];
@@ -188,6 +219,8 @@ static void on_call(int number, siginfo_t *info, void *context)
         signal(SIGSYS, SIG_DFL);
     else if (is_memory(call, words))
         at[REG_RAX] = memory_call(call, words);
+    else if (call == SYS_rt_sigprocmask)
+        at[REG_RAX] = mask_call(words);
     else if (is_needless(call, words))
         at[REG_RAX] = 0;
     else if (!is_harmless(call, words))

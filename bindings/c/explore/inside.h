@@ -73,6 +73,7 @@ struct state {
     struct nic82540em nic;
     size_t heap_used, memory_used, last_block, before_last; /* last_block: where the last one begins */
     const char *fault;
+    uint64_t signal_mask; /* of the test */
     void (*handler)(void);
     bool takes_none; /* whether the handler is kept out */
     bool cuts_in;    /* the handler cuts in before this access, or between two steps of x_settle */
@@ -139,6 +140,7 @@ void xi_watch_program(void);
 bool xi_is_first_write(const void *address);
 void xi_find_written(void);
 void xi_to_base(void);
+void xi_unwatch(void);
 
 /* heap.c and malloc.c: memory of malloc */
 extern const bool xi_has_malloc __attribute__((weak)); /* its address is NULL if another library defines malloc */
@@ -155,6 +157,8 @@ char xi_pause(void);
 void xi_resume(char before);
 void xi_at_test(bool is_test);
 void xi_block_calls(void);
+void xi_know_thread(void);
+bool xi_is_elsewhere(int number);
 void xi_on(int number, void (*handler)(int, siginfo_t *, void *), int flags);
 
 /* states.c: the arena, saved states and digests */
@@ -320,6 +324,7 @@ void xi_print_lines(FILE *file, const struct deviation *path, unsigned count);
 void xi_listen(void);
 void xi_limit_time(void);
 void xi_begin_time(void);
+void xi_end_time(void);
 bool xi_is_late(void);
 int xi_stopped(void);
 const char *xi_why(void);

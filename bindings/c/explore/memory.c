@@ -12,6 +12,7 @@
  */
 #define _GNU_SOURCE
 #include "inside.h"
+#include <dirent.h>
 #include <fcntl.h>
 #include <link.h>
 #include <stdlib.h>
@@ -192,6 +193,7 @@ struct ranges {
 };
 
 static struct ranges segments, thread_locals; /* what each object can write; its variables of this thread */
+static bool has_threads; /* whether there are other threads, which wait: some mapping has what the kernel writes for them */
 static struct range loader;
 
 static void add_range(struct ranges *ranges, char *from, size_t size)
@@ -264,6 +266,8 @@ static void watch_mapping(const struct range *all, const char *name)
     }
     if (callers >= all->from && callers < to)
         xi_watch(callers, to);
+    else if (!has_thread && has_threads && *name != '/')
+        watch_those_in(&segments, all);
     else if (!has_thread && strcmp(name, "[stack]"))
         watch_without_own(all->from, to);
 }
@@ -283,6 +287,27 @@ static void watch_line(char *line)
     watch_mapping(&(struct range){ (char *)from, (char *)to }, name);
 }
 
+static bool finds_threads(void)
+{
+    DIR *folder = opendir("/proc/self/task");
+    int count = 0;
+
+    while (folder && readdir(folder))
+        count++;
+    if (folder)
+        closedir(folder);
+    return count > 3; /* the folder has two more names: itself, and the one above it */
+}
+
+/* Restores the test's memory as it was before the first run. From now on, it isn't watched. */
+void xi_unwatch(void)
+{
+    xi_to_base();
+    for (int n = 0; n < watched_count; n++)
+        mprotect(watched[n].range.from, (size_t)(watched[n].range.to - watched[n].range.from), PROT_READ | PROT_WRITE);
+    watched_count = part_count = xi_own_count = 0;
+}
+
 /* From now on, notes which memory of the program is written. */
 void xi_watch_program(void)
 {
@@ -296,6 +321,7 @@ void xi_watch_program(void)
     if (file < 0 || !text || !count || count == MOST_LINES - 1)
         xi_die("/proc/self/maps can't be read");
     close(file);
+    has_threads = finds_threads();
     dl_iterate_phdr(add_object, NULL);
     for (char *line = text; (end = strchr(line, '\n')) != NULL; line = end + 1)
         *end = 0, watch_line(line);

@@ -134,9 +134,9 @@ static const char *ended_by(const char *fault)
 /* A run of the search isn't as its schedule from nothing. Returns the exit status. */
 static int wrong_search(void)
 {
-    xi_say("a run of the search %s, and its schedule, played from nothing, %s, %s. So what this search has found isn't"
-           " true. Does the test use a clock, random numbers, or what another process changes?\n", ended_by(found->fault),
-           ended_by(found->fresh), strcmp(found->fault, found->fresh) ? "differs" : "with other accesses or answers");
+    xi_say("a run of the search %s, but its schedule, played from nothing, %s%s. So this search isn't right. Does the test"
+           " use a clock, random numbers, or what another process changes?\n", ended_by(found->fault),
+           ended_by(found->fresh), strcmp(found->fault, found->fresh) ? "" : " with other accesses or answers");
     xi_show();
     return xi_finish("differs", DIFFERS);
 }
@@ -500,6 +500,7 @@ int nic82540em_explore(int count, char **words, const char *(*test)(void *), voi
     int status;
 
     xi_explores(true);
+    xi_know_thread();
     xi_set_callers(__builtin_dwarf_cfa());
     xi_take_words(count, words);
     xi_set_test(test, argument);
@@ -510,7 +511,8 @@ int nic82540em_explore(int count, char **words, const char *(*test)(void *), voi
     else if (xi_given.replay)
         xi_prepare(false), xi_limit_time(), status = replay();
     else
-        status = searched_status(), xi_to_base();
+        status = searched_status(), xi_unwatch();
+    xi_end_time();
     xi_explores(false);
     return status;
 }

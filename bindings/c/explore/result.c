@@ -49,6 +49,18 @@ static const char *stored(void)
     return path;
 }
 
+/* Whether `nicbench serve` knows the places and the deviations of the schedule: it has no handlers, and no places but
+ * accesses and requests. */
+static bool is_known_to_server(void)
+{
+    for (unsigned n = 0; n < R.found.count; n++) {
+        int action = R.found.path[n].action;
+        if (R.found.path[n].sub || action == IRQ || action == LATE_IRQ || action == HOLD_STEP)
+            return false;
+    }
+    return true;
+}
+
 /* Prints the schedule that was found, and the commands that play it again. */
 void xi_show(void)
 {
@@ -69,7 +81,7 @@ void xi_show(void)
     }
     xi_say("%s --replay %s\n", xi_command, path ? path : R.found.count ? "/dev/stdin" : "/dev/null");
     xi_say("For each access:    the same with --log\n");
-    if (xi_has_touched)
+    if (xi_has_touched || !is_known_to_server())
         return;
     path = path || R.found.count ? path : "/dev/null";
     xi_say("For its chart:      tools/races --replay %s -- %s --pipe   (after ./nicbench --build%s)\n",
@@ -84,8 +96,9 @@ void xi_confirm_found(void)
 
     if (!xi_given.serve)
         return;
-    lack = xi_has_touched ? "the test calls x_touch"
-                          : xi_confirm(xi_given.serve, R.found.path, R.found.count, fault, sizeof fault);
+    lack = xi_has_touched          ? "the test calls x_touch"
+           : !is_known_to_server() ? "it has no handlers, and no places but accesses and requests"
+                                   : xi_confirm(xi_given.serve, R.found.path, R.found.count, fault, sizeof fault);
     served = lack || strcmp(fault, R.found.fault) ? "false" : "true";
     if (lack)
         xi_say("%s serve can't play it: %s\n", xi_given.serve, lack);

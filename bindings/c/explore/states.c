@@ -7,6 +7,7 @@
  */
 #define _GNU_SOURCE
 #include "inside.h"
+#include <errno.h>
 #include <signal.h>
 #include <stdlib.h>
 #include <string.h>
@@ -71,7 +72,7 @@ static void on_signal(int number, siginfo_t *info, void *context)
         xi_resume(before);
         return;
     }
-    if (xi_is_test())
+    if (xi_is_test() && number != SIGSEGV ? !xi_is_elsewhere(number) : xi_is_test())
         xi_fail(name_of(number, (uintptr_t)info->si_addr));
     signal(number, SIG_DFL);
 }
@@ -88,7 +89,7 @@ void xi_prepare(bool may_save)
         return;
     is_prepared = true;
     if (mmap(ARENA, PAGES * (size_t)PAGE, kind, flags, -1, 0) != ARENA)
-        xi_die("the memory at 0x200000000000 isn't free");
+        xi_die(errno == ENOMEM ? "memory is refused" : "the memory at 0x200000000000 isn't free");
     sigaltstack(&(stack_t){ .ss_sp = stack, .ss_size = sizeof stack }, NULL);
     for (size_t n = 0; n < sizeof numbers / sizeof *numbers; n++)
         xi_on(numbers[n], on_signal, SA_NODEFER | SA_ONSTACK);

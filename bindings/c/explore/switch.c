@@ -99,12 +99,17 @@ __attribute__((noinline)) void xi_clear_below(void)
 static void *explorer_top;
 void xi_switch(void **from, void *to);
 #ifdef __x86_64__
-enum { FRAME = 8, RETURN = 6 }; /* words that xi_switch pushes, and which of them is the address to go on at */
+/* Words that xi_switch pushes, and which of them is the address to go on at. The first word has the modes of floating
+ * point: MXCSR, and the control word of the x87. */
+enum { FRAME = 9, RETURN = 7 };
+#define MODES 0x037F00001F80
 __asm__(".text\n.type xi_switch, @function\nxi_switch:\n push %rbp\n push %rbx\n push %r12\n push %r13\n push %r14\n"
-        " push %r15\n mov %rsp,(%rdi)\n mov %rsi,%rsp\n pop %r15\n pop %r14\n pop %r13\n pop %r12\n pop %rbx\n"
+        " push %r15\n sub $8,%rsp\n stmxcsr (%rsp)\n fnstcw 4(%rsp)\n mov %rsp,(%rdi)\n mov %rsi,%rsp\n"
+        " ldmxcsr (%rsp)\n fldcw 4(%rsp)\n add $8,%rsp\n pop %r15\n pop %r14\n pop %r13\n pop %r12\n pop %rbx\n"
         " pop %rbp\n pop %rcx\n jmp *%rcx\n.size xi_switch, .-xi_switch\n");
 #else
 enum { FRAME = 20, RETURN = 1 };
+#define MODES 0
 __asm__(".text\n.type xi_switch, %function\nxi_switch:\n stp x29, x30, [sp, #-160]!\n stp x19, x20, [sp, #16]\n"
         " stp x21, x22, [sp, #32]\n stp x23, x24, [sp, #48]\n stp x25, x26, [sp, #64]\n stp x27, x28, [sp, #80]\n"
         " stp d8, d9, [sp, #96]\n stp d10, d11, [sp, #112]\n stp d12, d13, [sp, #128]\n stp d14, d15, [sp, #144]\n"
@@ -126,7 +131,7 @@ void xi_start(void (*function)(void))
 
     begins_with = function;
     memset(top, 0, FRAME * sizeof *top + 64);
-    top[RETURN] = (uint64_t)(uintptr_t)first;
+    top[RETURN] = (uint64_t)(uintptr_t)first, top[0] = MODES;
     test_top = top;
 }
 

@@ -31,9 +31,12 @@ static double seconds_since(const struct timespec *then)
 /* The first signal ends the search. A signal that comes more than a second after the first one ends the program. */
 static void on_stop(int number, siginfo_t *info, void *context)
 {
-    char before = xi_pause();
+    char before;
 
     (void)info, (void)context;
+    if (xi_is_elsewhere(number))
+        return;
+    before = xi_pause();
     if (!stopped)
         clock_gettime(CLOCK_MONOTONIC, &stopped_at);
     else if (seconds_since(&stopped_at) > PATIENCE)
@@ -56,10 +59,13 @@ void xi_listen(void)
 static void on_second(int number, siginfo_t *info, void *context)
 {
     static unsigned last;
-    char before = xi_pause();
-    bool is_stuck = xi_is_test() && last == xi_entries;
+    char before;
+    bool is_stuck;
 
-    (void)number, (void)info, (void)context;
+    (void)info, (void)context;
+    if (xi_is_elsewhere(number))
+        return;
+    before = xi_pause(), is_stuck = xi_is_test() && last == xi_entries;
     last = xi_entries, run_seconds++;
     if (xi_is_test() && run_seconds > (is_late ? (unsigned)SHORTER : xi_given.seconds)) {
         is_late = !xi_is_fresh;
@@ -81,6 +87,11 @@ void xi_limit_time(void)
 
     xi_on(SIGALRM, on_second, SA_RESTART | SA_NODEFER);
     setitimer(ITIMER_REAL, &each, NULL);
+}
+
+void xi_end_time(void)
+{
+    setitimer(ITIMER_REAL, &(struct itimerval){ { 0, 0 }, { 0, 0 } }, NULL);
 }
 
 void xi_begin_time(void)
