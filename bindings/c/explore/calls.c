@@ -76,24 +76,55 @@ static const struct {
     int number;
     const char *name, *what;
 } refused[] = {
-    { SYS_open, "open", "opens a file" }, { SYS_openat, "openat", "opens a file" }, { SYS_creat, "creat", "opens a file" },
-    { SYS_read, "read", "reads from a file" }, { SYS_pread64, "pread64", "reads from a file" },
-    { SYS_readv, "readv", "reads from a file" }, { SYS_write, "write", "writes to a file" },
-    { SYS_writev, "writev", "writes to a file" }, { SYS_pwrite64, "pwrite64", "writes to a file" },
-    { SYS_lseek, "lseek", "uses a file" }, { SYS_close, "close", "closes a file" }, { SYS_dup, "dup", "uses a file" },
-    { SYS_dup2, "dup2", "uses a file" }, { SYS_pipe, "pipe", "makes a pipe" }, { SYS_pipe2, "pipe2", "makes a pipe" },
-    { SYS_unlink, "unlink", "removes a file" }, { SYS_rename, "rename", "renames a file" }, { SYS_mkdir, "mkdir", "makes a folder" },
-    { SYS_stat, "stat", "looks at a file" }, { SYS_access, "access", "looks at a file" }, { SYS_fork, "fork", "starts a child" },
-    { SYS_newfstatat, "newfstatat", "looks at a file" }, { SYS_fstat, "fstat", "looks at a file" },
-    { SYS_vfork, "vfork", "starts a child" }, { SYS_clone, "clone", "starts a child" }, { SYS_clone3, "clone3", "starts a child" }, { SYS_execve, "execve", "starts another program" },
-    { SYS_wait4, "wait4", "waits for a child" }, { SYS_socket, "socket", "opens a socket" }, { SYS_connect, "connect", "uses a socket" },
-    { SYS_sendto, "sendto", "uses a socket" }, { SYS_recvfrom, "recvfrom", "uses a socket" }, { SYS_poll, "poll", "waits for a file" },
-    { SYS_select, "select", "waits for a file" }, { SYS_mmap, "mmap", "maps memory" }, { SYS_mprotect, "mprotect", "protects memory" },
-    { SYS_shmget, "shmget", "shares memory" }, { SYS_shmat, "shmat", "shares memory" }, { SYS_memfd_create, "memfd_create", "opens a file" },
-    { SYS_rt_sigaction, "rt_sigaction", "handles a signal" }, { SYS_kill, "kill", "sends a signal" },
-    { SYS_alarm, "alarm", "sets a timer" }, { SYS_setitimer, "setitimer", "sets a timer" }, { SYS_timer_create, "timer_create", "sets a timer" },
-    { SYS_getrandom, "getrandom", "asks for random numbers" }, { SYS_clock_gettime, "clock_gettime", "reads a clock" },
-    { SYS_gettimeofday, "gettimeofday", "reads a clock" }, { SYS_time, "time", "reads a clock" }, { SYS_ioctl, "ioctl", "uses a device" },
+    { SYS_open, "open", "opens a file" },
+    { SYS_openat, "openat", "opens a file" },
+    { SYS_creat, "creat", "opens a file" },
+    { SYS_read, "read", "reads from a file" },
+    { SYS_pread64, "pread64", "reads from a file" },
+    { SYS_readv, "readv", "reads from a file" },
+    { SYS_write, "write", "writes to a file" },
+    { SYS_writev, "writev", "writes to a file" },
+    { SYS_pwrite64, "pwrite64", "writes to a file" },
+    { SYS_lseek, "lseek", "uses a file" },
+    { SYS_close, "close", "closes a file" },
+    { SYS_dup, "dup", "uses a file" },
+    { SYS_dup2, "dup2", "uses a file" },
+    { SYS_pipe, "pipe", "makes a pipe" },
+    { SYS_pipe2, "pipe2", "makes a pipe" },
+    { SYS_unlink, "unlink", "removes a file" },
+    { SYS_rename, "rename", "renames a file" },
+    { SYS_mkdir, "mkdir", "makes a folder" },
+    { SYS_stat, "stat", "looks at a file" },
+    { SYS_access, "access", "looks at a file" },
+    { SYS_fork, "fork", "starts a child" },
+    { SYS_newfstatat, "newfstatat", "looks at a file" },
+    { SYS_fstat, "fstat", "looks at a file" },
+    { SYS_vfork, "vfork", "starts a child" },
+    { SYS_clone, "clone", "starts a child" },
+    { SYS_clone3, "clone3", "starts a child" },
+    { SYS_execve, "execve", "starts another program" },
+    { SYS_wait4, "wait4", "waits for a child" },
+    { SYS_socket, "socket", "opens a socket" },
+    { SYS_connect, "connect", "uses a socket" },
+    { SYS_sendto, "sendto", "uses a socket" },
+    { SYS_recvfrom, "recvfrom", "uses a socket" },
+    { SYS_poll, "poll", "waits for a file" },
+    { SYS_select, "select", "waits for a file" },
+    { SYS_mmap, "mmap", "maps memory" },
+    { SYS_mprotect, "mprotect", "protects memory" },
+    { SYS_shmget, "shmget", "shares memory" },
+    { SYS_shmat, "shmat", "shares memory" },
+    { SYS_memfd_create, "memfd_create", "opens a file" },
+    { SYS_rt_sigaction, "rt_sigaction", "handles a signal" },
+    { SYS_kill, "kill", "sends a signal" },
+    { SYS_alarm, "alarm", "sets a timer" },
+    { SYS_setitimer, "setitimer", "sets a timer" },
+    { SYS_timer_create, "timer_create", "sets a timer" },
+    { SYS_getrandom, "getrandom", "asks for random numbers" },
+    { SYS_clock_gettime, "clock_gettime", "reads a clock" },
+    { SYS_gettimeofday, "gettimeofday", "reads a clock" },
+    { SYS_time, "time", "reads a clock" },
+    { SYS_ioctl, "ioctl", "uses a device" },
     { SYS_fcntl, "fcntl", "uses a file" },
 };
 
@@ -103,7 +134,9 @@ static long made(long number, const long *words)
     register long r10 __asm__("r10") = words[3], r8 __asm__("r8") = words[4], r9 __asm__("r9") = words[5];
     long result;
 
-    __asm__ volatile("syscall" : "=a"(result) : "a"(number), "D"(words[0]), "S"(words[1]), "d"(words[2]), "r"(r10), "r"(r8), "r"(r9)
+    __asm__ volatile("syscall"
+                     : "=a"(result)
+                     : "a"(number), "D"(words[0]), "S"(words[1]), "d"(words[2]), "r"(r10), "r"(r8), "r"(r9)
                      : "rcx", "r11", "memory");
     return result;
 }
@@ -134,11 +167,12 @@ static bool is_harmless(long number, const long *words)
     return false;
 }
 
-/* Whether a call is answered with 0, and not made. The C library handles signals for itself before it starts a child or
- * a thread, and protects memory of mmap, which is in the test's heap. */
+/* Whether a call is answered with 0, and not made. The C library handles signals for itself before it starts a child
+ * or a thread, and protects memory of mmap, which is in the test's heap. */
 static bool is_needless(long number, const long *words)
 {
-    bool is_librarys = words[0] == SIGINT || words[0] == SIGQUIT || words[0] == SIGABRT || words[0] == 32 || words[0] == 33;
+    bool is_librarys = words[0] == SIGINT || words[0] == SIGQUIT || words[0] == SIGABRT || words[0] == 32 ||
+                       words[0] == 33;
 
     if (number == SYS_mprotect)
         return (uintptr_t)words[0] >= XI_HEAP && (uintptr_t)words[0] < XI_HEAP + XI_HEAP_SIZE;
@@ -172,9 +206,9 @@ static long memory_call(long number, const long *words)
 /* Whether a call starts a thread */
 static bool is_thread(long number, const long *words)
 {
-    unsigned long flags = number == SYS_clone ? (unsigned long)words[0] : number == SYS_clone3 ? *(const uint64_t *)words[0] : 0;
-
-    return flags & CLONE_THREAD;
+    if (number == SYS_clone3)
+        return *(const uint64_t *)words[0] & CLONE_THREAD;
+    return number == SYS_clone && words[0] & CLONE_THREAD;
 }
 
 /* Changes the test's signal mask, which is a part of its state, and not the process's. */
@@ -234,7 +268,8 @@ static void on_call(int number, siginfo_t *info, void *context)
 
 /* The return from a handler is a system call, too: this one is never refused. */
 void xi_return(void);
-__asm__(".text\n.type xi_return, @function\nxi_return:\n mov $15,%eax\n syscall\n nop\n nop\n nop\n nop\n.size xi_return, .-xi_return\n");
+__asm__(".text\n.type xi_return, @function\nxi_return:\n mov $15,%eax\n syscall\n nop\n nop\n nop\n nop\n"
+        ".size xi_return, .-xi_return\n");
 
 /* Sets the handler of a signal. */
 void xi_on(int number, void (*handler)(int, siginfo_t *, void *), int flags)

@@ -115,7 +115,8 @@ static void *take(struct heap *heap, size_t size, size_t align)
         return NULL;
     block = heap->free[class];
     if (block)
-        memcpy(&heap->free[class], block + sizeof *head, sizeof(void *)), memset(block + sizeof *head, 0, sizeof(void *));
+        memcpy(&heap->free[class], block + sizeof *head, sizeof(void *)),
+            memset(block + sizeof *head, 0, sizeof(void *));
     else if (!(block = new_block(heap, sizeof *head + size_of(class))))
         return NULL;
     head = (struct head *)block;

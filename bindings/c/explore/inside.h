@@ -6,8 +6,10 @@
 #include <signal.h>
 #include <stdio.h>
 
-enum { PAGE = 4096, MOST_AREAS = 128, MOST_FRAMES = 256, MOST_BYTES = 1 << 17, MOST_PATH = 1024, LONGEST = 1518, MOST_OPTIONS = 32, MOST_ANSWERS = 16,
-       MOST_PLACES = 100000 };
+enum {
+    PAGE = 4096, MOST_AREAS = 128, MOST_FRAMES = 256, MOST_BYTES = 1 << 17, MOST_PATH = 1024, LONGEST = 1518,
+    MOST_OPTIONS = 32, MOST_ANSWERS = 16, MOST_PLACES = 100000
+};
 /* What may be done before an access or a request: steps (NIC_TXTAKE to NIC_PHY), and these. DEFAULT is no deviation. */
 enum { TX = NIC_PHY + 1, RX, HOLD_EEPROM, HOLD_PHY, ARRIVAL, IRQ, LATE_IRQ, HOLD_STEP, CHOICE, ACTIONS, DEFAULT = -1 };
 /* The kinds of places. LINE: the test looks at the line. CALL: the handler is about to cut in after an access. PAUSE: in

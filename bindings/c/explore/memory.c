@@ -6,9 +6,9 @@
  * explorer. It also has the arena, which states.c adds.
  *
  * Whole pages of it are protected. The first write to a page is a fault: its handler copies the page, notes it as
- * written, and allows writes. What shares its page with memory of the explorer or of the kernel can't be protected. Such
- * a part is compared with its copy instead, whenever a state is saved, compared or restored. So memory that no run
- * writes is never copied again.
+ * written, and allows writes. What shares its page with memory of the explorer or of the kernel can't be protected.
+ * Such a part is compared with its copy instead, whenever a state is saved, compared or restored. So memory that no
+ * run writes is never copied again.
  */
 #define _GNU_SOURCE
 #include "inside.h"
@@ -146,7 +146,8 @@ static void watch_part(char *from, char *to)
         return;
     if (part_count == MOST_PARTS)
         xi_die("the program's memory has more than 512 parts");
-    parts[part_count++] = (struct own){ .at = from, .size = (uint32_t)(to - from), .base = kept(from, (size_t)(to - from)) };
+    parts[part_count] = (struct own){ .at = from, .size = (uint32_t)(to - from) };
+    parts[part_count++].base = kept(from, (size_t)(to - from));
 }
 
 static void watch_pages(char *from, char *to)
@@ -193,7 +194,8 @@ struct ranges {
 };
 
 static struct ranges segments, thread_locals; /* what each object can write; its variables of this thread */
-static bool has_threads; /* whether there are other threads, which wait: some mapping has what the kernel writes for them */
+/* Whether there are other threads, which wait. Some mapping has what the kernel writes for them. */
+static bool has_threads;
 static struct range loader;
 
 static void add_range(struct ranges *ranges, char *from, size_t size)
@@ -256,7 +258,9 @@ static void watch_mapping(const struct range *all, const char *name)
     char *thread = __builtin_thread_pointer(), *to = all->to;
     bool has_thread = thread >= all->from && thread < all->to;
 
-    if ((all->from >= (char *)XI_BEGIN && all->from < (char *)XI_END) || (all->from >= loader.from && all->from < loader.to))
+    if (all->from >= (char *)XI_BEGIN && all->from < (char *)XI_END)
+        return;
+    if (all->from >= loader.from && all->from < loader.to)
         return;
     if (has_thread) {
         watch_those_in(&segments, all), watch_those_in(&thread_locals, all);

@@ -134,15 +134,17 @@ static const char *ended_by(const char *fault)
 /* A run of the search isn't as its schedule from nothing. Returns the exit status. */
 static int wrong_search(void)
 {
-    xi_say("a run of the search %s, but its schedule, played from nothing, %s%s. So this search isn't right. Does the test"
-           " use a clock, random numbers, or what another process changes?\n", ended_by(found->fault),
-           ended_by(found->fresh), strcmp(found->fault, found->fresh) ? "" : " with other accesses or answers");
+    bool is_other = strcmp(found->fault, found->fresh) != 0;
+
+    xi_say("a run of the search %s, but its schedule, played from nothing, %s%s. So this search isn't right. Does the"
+           " test use a clock, random numbers, or what another process changes?\n", ended_by(found->fault),
+           ended_by(found->fresh), is_other ? "" : " with other accesses or answers");
     xi_show();
     return xi_finish("differs", DIFFERS);
 }
 
-/* Tries all schedules of up to this number of deviations, or EVERY one. If the search is wrong, ends the program. Returns whether the search has come to its end,
- * or to a schedule that fails. */
+/* Tries all schedules of up to this number of deviations, or EVERY one. If the search is wrong, ends the program.
+ * Returns whether the search has come to its end, or to a schedule that fails. */
 static bool explore(int depth, uint64_t most, bool finds_all)
 {
     xi_is_history_needless = false;
@@ -154,7 +156,8 @@ static bool explore(int depth, uint64_t most, bool finds_all)
 }
 
 /* Looks for a schedule that fails with one or two deviations. If there is none, makes the schedule that was found
- * shorter. Then looks for one with fewer deviations, or with as many at earlier places; all with fewer than `least` pass. Returns whether the one that is left is the smallest. */
+ * shorter. Then looks for one with fewer deviations, or with as many at earlier places; all with fewer than `least`
+ * pass. Returns whether the one that is left is the smallest. */
 static bool make_smaller(int least)
 {
     static struct found first;
@@ -269,7 +272,8 @@ static int add_failed_run(uint64_t seed)
 
 static int unsaved(const char *run)
 {
-    xi_say("%s: the test doesn't repeat itself. Does it use a clock, random numbers, or what another process changes?\n", run);
+    xi_say("%s: the test doesn't repeat itself. Does it use a clock, random numbers, or what another process changes?\n",
+           run);
     return xi_finish("unsaved", NOT_RUN);
 }
 

@@ -5,8 +5,9 @@
 #define S xi_state
 
 static struct {
-    bool wrapped[2], full[2], missed, in_send; /* of the receive and the transmit ring; full: no slot is free, or offered */
-    bool has[2];                               /* whether there is such a ring */
+    /* Of the receive and the transmit ring: whether there is one, it has wrapped, and no slot was offered, or free */
+    bool has[2], wrapped[2], full[2];
+    bool missed, in_send;
     uint64_t handled;
 } seen;
 
@@ -46,11 +47,11 @@ void xi_see_handler(bool in_send)
 
 static const char *ring(char *into, size_t room, bool sends)
 {
-    const char *full = sends ? "full" : "dry";
+    const char *full = sends ? "full" : "dry", *wrapped = seen.wrapped[sends] ? "wrapped" : "never wrapped";
 
     if (!seen.has[sends])
         return sends ? "nothing was sent" : "nothing was received";
-    snprintf(into, room, "the %s ring %s, and %s %s", sends ? "transmit" : "receive", seen.wrapped[sends] ? "wrapped" : "never wrapped",
+    snprintf(into, room, "the %s ring %s, and %s %s", sends ? "transmit" : "receive", wrapped,
              seen.full[sends] ? "was" : "was never", full);
     return into;
 }
@@ -59,8 +60,8 @@ static const char *ring(char *into, size_t room, bool sends)
 void xi_say_seen(void)
 {
     char receive[96], transmit[96];
+    const char *handler = seen.in_send ? "; the handler ran inside a send" : "; the handler never ran inside a send";
 
-    xi_say("%s; %s; %s frame was missed%s\n", ring(receive, sizeof receive, false), ring(transmit, sizeof transmit, true),
-           seen.missed ? "a" : "no",
-           !seen.handled ? "" : seen.in_send ? "; the handler ran inside a send" : "; the handler never ran inside a send");
+    xi_say("%s; %s; %s frame was missed%s\n", ring(receive, sizeof receive, false),
+           ring(transmit, sizeof transmit, true), seen.missed ? "a" : "no", seen.handled ? handler : "");
 }

@@ -277,8 +277,10 @@ static struct digest digest_of_bytes(const char *at, const struct own *one)
  * of the host's memory are. The adapter's own digest stands for the others of the heap. */
 static bool is_compared(const struct own *one)
 {
-    return one->at < ARENA || one->at >= HEAP + HEAP_PAGES * (size_t)PAGE || (one->at >= (char *)xi_state && one->at < HEAP) ||
-           (one->at >= host && one->at < host_end);
+    bool is_in_arena = one->at >= ARENA && one->at < HEAP + HEAP_PAGES * (size_t)PAGE;
+    bool is_tests = one->at >= (char *)xi_state && one->at < HEAP;
+
+    return !is_in_arena || is_tests || (one->at >= host && one->at < host_end);
 }
 
 /* Adds the difference of a page from what it was before the first run. */

@@ -1,11 +1,12 @@
 /* The calls of the test. Each is made by a function of bus.c, and then clears what this function has left on the stack
- * of the test: in the frames of later functions, it would make states different.
+ * of the test: in the frames of later functions, it would make states different. Only searches compare states.
  */
 #ifdef __x86_64__
-#define STUB(name)                                                                                                       \
-    __asm__(".text\n.globl " #name "\n.type " #name ", @function\n" #name ":\n sub $8,%rsp\n call xi_made_" #name        \
-            "\n add $8,%rsp\n mov %rax,%rdx\n lea -512(%rsp),%rdi\n mov $64,%ecx\n xor %eax,%eax\n rep stosq\n"           \
-            " mov %rdx,%rax\n ret\n.size " #name ", .-" #name "\n");
+#define STUB(name)                                                                                          \
+    __asm__(".text\n.globl " #name "\n.type " #name ", @function\n" #name ":\n sub $8,%rsp\n"              \
+            " call xi_made_" #name "\n add $8,%rsp\n mov xi_searches@GOTPCREL(%rip),%rcx\n cmpb $0,(%rcx)\n" \
+            " je 1f\n mov %rax,%rdx\n lea -512(%rsp),%rdi\n mov $64,%ecx\n xor %eax,%eax\n rep stosq\n"     \
+            " mov %rdx,%rax\n1:\n ret\n.size " #name ", .-" #name "\n");
 #elif defined(__aarch64__)
 #define STUB(name)                                                                                                       \
     __asm__(".text\n.globl " #name "\n.type " #name ", %function\n" #name ":\n stp x29, x30, [sp, #-16]!\n"               \

@@ -86,11 +86,15 @@ __attribute__((noinline)) void xi_clear_below(void)
     uint64_t words = depth / 8, zero = 0;
     char *at;
 
-    __asm__ volatile("mov %%rsp, %0\n sub %3, %0\n rep stosq" : "=&D"(at), "+c"(words), "+a"(zero) : "r"(depth & ~(size_t)7) : "memory");
+    __asm__ volatile("mov %%rsp, %0\n sub %3, %0\n rep stosq"
+                     : "=&D"(at), "+c"(words), "+a"(zero)
+                     : "r"(depth & ~(size_t)7)
+                     : "memory");
 #elif defined(__aarch64__)
     uint64_t at, size = depth & ~(size_t)15;
 
-    __asm__ volatile("mov %0, sp\n sub %0, %0, %1\n 1: cbz %1, 2f\n stp xzr, xzr, [%0], #16\n sub %1, %1, #16\n b 1b\n 2:"
+    __asm__ volatile("mov %0, sp\n sub %0, %0, %1\n 1: cbz %1, 2f\n stp xzr, xzr, [%0], #16\n sub %1, %1, #16\n"
+                     " b 1b\n 2:"
                      : "=&r"(at), "+r"(size) : : "memory");
 #endif
 }

@@ -69,7 +69,8 @@ static void on_second(int number, siginfo_t *info, void *context)
     last = xi_entries, run_seconds++;
     if (xi_is_test() && run_seconds > (is_late ? (unsigned)SHORTER : xi_given.seconds)) {
         is_late = !xi_is_fresh;
-        snprintf(late, sizeof late, "it doesn't end in %u second%s", xi_given.seconds, xi_given.seconds == 1 ? "" : "s");
+        snprintf(late, sizeof late, "it doesn't end in %u second%s", xi_given.seconds,
+                 xi_given.seconds == 1 ? "" : "s");
         xi_fail(late);
     }
     if (is_stuck && stopped) {
