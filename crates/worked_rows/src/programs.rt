@@ -50,9 +50,13 @@ drain b
 fn trace(alloc: Global, frames: &[([u8; 6], [u8; 4], usize)]) -> Result<Trace, Fail> {
     let mut bytes = trace_of(alloc, 0xA1B2_C3D4, false, &[])?;
     for (destination, kind, length) in frames {
-        let mut frame = [0; 1518];
-        frame[..6].copy_from_slice(destination);
-        frame[12..16].copy_from_slice(kind);
+        let mut frame = Vec::new(alloc);
+        frame.extend_from_slice(destination)?;
+        frame.extend_from_slice(&[0; 6])?;
+        frame.extend_from_slice(kind)?;
+        for _ in 16..*length {
+            frame.push(0)?;
+        }
         let frame = frame.get(..*length).unwrap_or(&[]);
         let one = trace_of(
             alloc,
@@ -183,7 +187,7 @@ fn frames_pass_through_a_filter(rt: HostRuntime) -> Result<(), Fail> {
         let words = ["nicbench", "pass", options[0], options[1], "in", "out"];
         let refused = line(alloc, words.as_slice());
         assert!(rt;
-            refused.is_err_and(|error| error.status() == 2),
+            matches!(&refused, Err(error) if error.status() == 2),
             "{options:?}"
         );
     }
