@@ -50,9 +50,13 @@ drain b
 fn trace(alloc: Global, frames: &[([u8; 6], [u8; 4], usize)]) -> Result<Trace, Fail> {
     let mut bytes = trace_of(alloc, 0xA1B2_C3D4, false, &[])?;
     for (destination, kind, length) in frames {
-        let mut frame = [0; 1518];
-        frame[..6].copy_from_slice(destination);
-        frame[12..16].copy_from_slice(kind);
+        let mut frame = Vec::new(alloc);
+        frame.extend_from_slice(destination)?;
+        frame.extend_from_slice(&[0; 6])?;
+        frame.extend_from_slice(kind)?;
+        for _ in 16..*length {
+            frame.push(0)?;
+        }
         let frame = frame.get(..*length).unwrap_or(&[]);
         let one = trace_of(
             alloc,
@@ -183,7 +187,7 @@ fn frames_pass_through_a_filter(rt: HostRuntime) -> Result<(), Fail> {
         let words = ["nicbench", "pass", options[0], options[1], "in", "out"];
         let refused = line(alloc, words.as_slice());
         assert!(rt;
-            refused.is_err_and(|error| error.status() == 2),
+            matches!(&refused, Err(error) if error.status() == 2),
             "{options:?}"
         );
     }
@@ -214,14 +218,16 @@ fn run(
     events: &str,
     traces: &[Trace],
     unit: Unit,
-) -> Result<(VecSink, VecSink), Fail> {
+) -> Result<(Vec<u8>, Vec<u8>), Fail> {
     let text = format!(in alloc; "{TWO}{events}")?;
     let mut sinks = [VecSink::new(alloc)];
     let summary = played(rt, alloc, text.as_str(), traces, unit, &mut sinks)??;
     let mut printed = VecSink::new(alloc);
     print_summary(&summary, &mut printed)?;
-    let [sink] = sinks;
-    Ok((sink, printed))
+    Ok((
+        sinks[0].bytes().to_vec(alloc)?,
+        printed.bytes().to_vec(alloc)?,
+    ))
 }
 
 /// Events, the frames of the traces that they feed, the printed lines, and the times of the socket's frames.
@@ -274,30 +280,30 @@ fn scenarios_are_run(rt: HostRuntime) -> Result<(), Fail> {
         } else {
             run(&rt, alloc, events, &[trace(alloc, frames)?], Unit::Micros)?
         };
-        assert!(rt; printed.bytes() == lines.as_bytes(), "{events}");
-        assert!(rt; times(alloc, sink.bytes())?.as_str() == stamps, "{events}");
+        assert!(rt; printed.as_slice() == lines.as_bytes(), "{events}");
+        assert!(rt; times(alloc, &sink)?.as_str() == stamps, "{events}");
     }
     // The frame of 14 bytes, padded, and the lines of `show`.
     let (sink, _) = run(&rt, alloc, ONE_FRAME, &[], Unit::Micros)?;
-    let said = hex(alloc, sink.bytes().get(24..54).unwrap_or(&[]))?;
+    let said = hex(alloc, sink.get(24..54).unwrap_or(&[]))?;
     assert!(rt; said.as_str() == "00000000070000003c0000003c0000000200000000020200000000010800");
-    assert!(rt; sink.bytes().len() == 100 && sink.bytes().get(54..) == Some([0; 46].as_slice()));
+    assert!(rt; sink.len() == 100 && sink.get(54..) == Some([0; 46].as_slice()));
     let mut shown = VecSink::new(alloc);
     show(
-        &Trace::read(alloc, &mut SliceSource::new(sink.bytes()))?,
+        &Trace::read(alloc, &mut SliceSource::new(&sink))?,
         &mut shown,
     )?;
     let wanted = b"0 60 02:00:00:00:00:02 02:00:00:00:00:01 0800\nframes 1 skipped 0 cut no\n";
     assert!(rt; shown.bytes() == wanted.as_slice());
     let (sink, _) = run(&rt, alloc, ONE_FRAME, &[], Unit::Nanos)?;
-    assert!(rt; times(alloc, sink.bytes())?.as_str() == "7000 ");
+    assert!(rt; times(alloc, &sink)?.as_str() == "7000 ");
     // Equal seeds have equal runs.
     let (first, counts) = run(&rt, alloc, "auto 10000 1\n", &[], Unit::Micros)?;
     let (second, others) = run(&rt, alloc, "auto 10000 1\n", &[], Unit::Micros)?;
     assert!(rt;
-        first.bytes() == second.bytes()
-            && counts.bytes() == others.bytes()
-            && first.bytes().len() > 100
+        first.as_slice() == second.as_slice()
+            && counts.as_slice() == others.as_slice()
+            && first.len() > 100
     );
     Ok(())
 }
