@@ -17,7 +17,8 @@ from harness import TOP, text_of
 EXAMPLES = os.path.join(TOP, "examples", "explore")
 PASSES, FOUND, USAGE, NOT_RUN, NOTHING = range(5)
 SIGNALS = signal.SIGINT, signal.SIGTERM, signal.SIGHUP
-WITHOUT_TOUCH = "the handler cut in only after accesses and requests: between two variables, it does so with x_touch"
+WITHOUT_TOUCH = ("the handler cut in at accesses and requests, not between uses of shared variables: "
+                 "x_touch makes these places")
 KEYS = {"result", "seed", "fault", "schedule", "runs", "search", "served"}
 SEARCH_KEYS = {"complete", "tried", "smallest", "holds", "first", "schedules", "states", "depth"}
 # The line in which the handler of my_test.c reads ICR, and the end of this handler
@@ -228,8 +229,8 @@ def lengths(bench, stages):
 
 
 def handlers(bench, stopped, looks):
-    """The template passes every schedule. With `x_touch`, no line reports that the handler cut in only after accesses
-    and requests, and `serve` can't play a schedule. A race of two variables is found in less than 3 processor seconds.
+    """The template passes every schedule. With `x_touch`, no line reports where the handler cut in, and `serve` can't
+    play a schedule. A race of two variables is found in less than 3 processor seconds.
     """
     mine = template(bench)
     status, out, _ = bench.run(looks, "--explore", "every")

@@ -107,7 +107,8 @@ static int passes(void)
     if (!xi_given.check)
         xi_say_seen();
     if (xi_has_handler && !xi_has_touched)
-        xi_say("the handler cut in only after accesses and requests: between two variables, it does so with x_touch\n");
+        xi_say("the handler cut in at accesses and requests, not between uses of shared variables: x_touch makes these "
+               "places\n");
     return xi_finish("passes", PASSES);
 }
 
