@@ -28,9 +28,12 @@ NARROW = 2
 
 class ChartRow(NamedTuple):
     """A row of a chart: its texts by column, and the columns where its arrow begins and ends (None without an arrow).
+
+    The text of a mark goes over the columns after its own one, which is no wider because of it.
     """
     cells: Dict[str, str]
     arrow: Optional[Tuple[str, str]] = None
+    is_mark: bool = False
 
 
 def bytes_in(value: int, size: int) -> str:
@@ -116,7 +119,7 @@ def of_event(row: Row, head: str | None) -> ChartRow | None:
     if words[0] == "frame":
         return ChartRow({"wire": frame_text(words[1])}, ("adapter", "wire"))
     if words[1] == "mark":
-        return ChartRow({"driver": " ".join(words[2:])})
+        return ChartRow({"driver": " ".join(words[2:])}, is_mark=True)
     if words[1] == "step":
         return None if words[4] == "nothing" else of_step(row, head)
     if words[1] == "arrive":
@@ -214,7 +217,8 @@ def layout(rows: list[ChartRow], columns: Sequence[str] = COLUMNS) -> tuple[dict
     starts, at = {}, 0
     for column in columns:
         starts[column] = at
-        at += max(len(column), *(len(row.cells.get(column, "")) for row in rows)) + gap_after(column)
+        texts = (row.cells.get(column, "") for row in rows if not row.is_mark)
+        at += max(len(column), *map(len, texts)) + gap_after(column)
     return starts, at
 
 

@@ -12,7 +12,7 @@ from contextlib import closing
 from typing import TYPE_CHECKING, Any, Callable, Optional, Sequence
 
 from finder.arguments import TEXTS, UsageError, arguments_of, check_out
-from finder.chart import chart_of, end_of
+from finder.chart import end_of
 from finder.draw import Pct, actors_of, bound_of, drawing_of
 from finder.ends import BY_SIGNAL, Ended, Unprinted, check_output, holding, listen, prepare_output, say, tell
 from finder.explore import WHOLE, Search, explore, fails
@@ -26,7 +26,7 @@ from finder.server import ServerEnded
 from finder.shrink import Shrinker
 from finder.store import store, store_page
 from finder.target import CannotRun, Target
-from finder.terminal import NOTHING_PLAYED, chart_on, look_of
+from finder.terminal import text_of_run
 from finder.usage import HELP
 
 if TYPE_CHECKING:
@@ -303,11 +303,7 @@ class Finder:
         return shrinker.shrink(search.found), True  # `shrink` moves or lowers the deviations here, but drops none
 
     def chart(self, run: Run) -> str:
-        """The text of a run's chart. If the run has no rows, a line reports this, and another one how the run ended."""
-        if not run.rows:
-            return NOTHING_PLAYED + f"   {end_of(run)}\n"
-        rows = chart_of(run, self.given["rows"] == "all")
-        return chart_on(look_of(self.given["color"]), rows, end_of(run), not run.fault)
+        return text_of_run(run, self.given["rows"] == "all", self.given["color"])
 
     def show(self, run: Run) -> None:
         """Prints a run's schedule, the end of its log, and its chart, if it has any; and stores the run for --out."""
@@ -334,15 +330,17 @@ class Finder:
             if self.given["out"]:
                 store(self.given["out"], run, text, self.given["rows"] == "all")
             if self.given["html"]:
-                store_page(self.given["html"], " ".join(self.target.command), run, self.compared(run))
+                self.store_page(self.given["html"], run)
         except OSError as error:
             tell(f"races: {error.filename}: {error.strerror}")
             return False
         return True
 
-    def compared(self, run: Run) -> Run | None:
-        """The run without deviations, to which a page compares a run with deviations. Otherwise None."""
-        return self.target.play_apart((), None, False) if run.met else None
+    def store_page(self, path: str, run: Run) -> None:
+        """Stores a page of a run and of the run without deviations, both in new processes, which may send `mark`."""
+        again = run if self.is_given else self.target.play_apart(run.met, None, False)
+        other = self.target.play_apart((), None, False) if run.met else None
+        store_page(path, " ".join(self.target.command), again if again.fault == run.fault else run, other)
 
     def end(self, status: int) -> int:
         """Prints what the runs reached, after a search that passes or finds nothing to play, or with --reached. With

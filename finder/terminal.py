@@ -8,10 +8,11 @@ import sys
 import textwrap
 from typing import TYPE_CHECKING, Iterator, NamedTuple, Optional, Sequence
 
-from finder.chart import BAR, COLUMNS, STAR, lines_of
+from finder.chart import BAR, COLUMNS, STAR, chart_of, end_of, lines_of
 
 if TYPE_CHECKING:
     from finder.chart import ChartRow
+    from finder.run import Run
 
 WHEN = ("auto", "always", "never")
 LEAST_WIDTH = 40  # a narrower terminal gets lines of this width
@@ -100,3 +101,11 @@ def chart_on(look: Look, rows: list[ChartRow], end: str, is_right: bool, columns
         told = [f"{GREEN if is_right else RED}{line}{PLAIN}" for line in told]
     return "".join(f"{line}\n" for line in [heading, *(line for its in shown for line in its), *told])
 
+
+def text_of_run(run: Run, has_all_rows: bool, when: str) -> str:
+    """The text of a run's chart on standard output. For a run without rows, a line reports this, and another one how
+    the run ended.
+    """
+    if not run.rows:
+        return NOTHING_PLAYED + f"   {end_of(run)}\n"
+    return chart_on(look_of(when), chart_of(run, has_all_rows), end_of(run), not run.fault)

@@ -266,5 +266,12 @@ def captures(bench):
 
 
 def all_cases(bench):
-    for part in (runs, refuses, terminals, replaces, ends, captures):
-        part(bench)
+    """Runs all parts in a folder of their own."""
+    top = bench.folder
+    bench.folder = bench.path("captures")
+    os.mkdir(bench.folder)
+    try:
+        for part in (runs, refuses, terminals, replaces, ends, captures):
+            part(bench)
+    finally:
+        bench.folder = top

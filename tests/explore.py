@@ -15,7 +15,9 @@ import subprocess
 import sys
 
 from harness import TOP, Ended, Program, test_all, words_of_script
+from explorer_enumerated import Enumerated, build_enumerator, enumerated
 from explorer_pages import check_lab, check_pages
+from explorer_races import calls, endless, hooks, passes, schedules
 from explorer_results import RECEIVES, check_results
 
 EXPLORER, EXAMPLES = os.path.join(TOP, "bindings", "c", "explore"), os.path.join(TOP, "examples", "explore")
@@ -23,13 +25,13 @@ LIMIT = 3600
 PASSES, FOUND, USAGE, NOT_RUN, NOTHING = range(5)
 ZEROED = ["-O0", "-ftrivial-auto-var-init=zero"]
 WARNINGS = ["-std=gnu11", "-Wall", "-Wextra", "-Werror"]
-# For tests of stages.c, how many schedules have exactly 1, 2, .. deviations. tools/races counted depths 1 and 2; a
-# search that plays each schedule counted 3 and 4.
-STAGES = 518, 139_447, 25_630_662, 3_583_586_963
-OFFERS, EXCHANGE, CUTS, HELD = (108, 6_306), 286, 210, 586
-# For each bug, how many schedules with up to one and with up to two deviations fail. A search that plays each schedule
-# counted them.
-FAILING = ("late", 3, 130), ("freed", 112, 39_220)
+# For tests of stages.c, how many schedules have exactly 1, 2, .. deviations. The enumerator (explorer/enumerate.c)
+# counts all with one deviation again in the part `counts`. It counted those of two deviations of `stages` and `offers`.
+STAGES = 600, 188_346, 40_447_801, 6_607_198_528
+OFFERS, EXCHANGE, CUTS, HELD = (138, 10_218), 310, 276, 702
+# For each bug, how many schedules with up to one and with up to two deviations fail. The enumerator counts those with
+# one.
+FAILING = ("late", 3, 149), ("freed", 139, 54_230)
 # For each bug: the test and the driver, options, and a deviation. Of the failing schedules with one deviation, that
 # with this deviation is at the earliest place.
 BUGS = [("late", "", "4.6 rxdone before read ICR"), ("length", "", "4.8 rxdone before read rx[1]+12"),
@@ -40,29 +42,11 @@ BUGS = [("late", "", "4.6 rxdone before read ICR"), ("length", "", "4.8 rxdone b
 BY_ITSELF = "head", "part"
 RIGHT = "right", "masks", "pool"
 # The tests of which every schedule is searched, each with its number of schedules
-EVERY = {"exchange:right": "1.52e+57", "exchange:masks": "3.75e+59", "exchange:pool": "1.52e+57",
-         "offers:right": "2.64e+96", "offers:masks": "1.86e+104", "offers:pool": "2.64e+96", "right": "7.47e+105",
-         "masks": "1.17e+112", "pool": "7.47e+105", "cuts:right": "2.02e+52", "cuts:masks": "2.34e+56",
-         "cuts:pool": "2.02e+52", "2exchange:right": "4.95e+114",
-         "2cuts:right": "4.51e+104"}
-# A test that keeps a count outside of its state, so that its accesses change from run to run
-FORGETS = """
-#include <nic82540em_explore.h>
-static const char *test(void *word)
-{
-    static unsigned calls;
-    (void)word;
-    x_write(NIC_RCTL, 0);
-    x_settle();
-    for (unsigned n = 0; n < 8; n++)
-        if (++calls % 7 == 0)
-            x_read(NIC_STATUS);
-        else
-            x_read(NIC_ICR);
-    return 0;
-}
-int main(int count, char **words) { return nic82540em_explore(count, words, test, 0); }
-"""
+EVERY = {"exchange:right": "1.31e+59", "exchange:masks": "1.79e+61", "exchange:pool": "1.31e+59",
+         "offers:right": "2.67e+102", "offers:masks": "4.21e+109", "offers:pool": "2.67e+102", "right": "2.65e+111",
+         "masks": "1.13e+117", "pool": "2.65e+111", "cuts:right": "5.44e+64", "cuts:masks": "3.93e+67",
+         "cuts:pool": "5.44e+64", "2exchange:right": "3.67e+118",
+         "2cuts:right": "3.62e+129"}
 # A test that ends by a signal if a frame is finished between the two reads of its status
 ENDS = """
 #include <nic82540em_explore.h>
@@ -208,6 +192,14 @@ def counts(bench):
         bench.check(f"counts: {words}", bench.none_of(bench.stages, *words, "--explore", "1"), 1 + count)
     bench.check("counts: each run from nothing", bench.none_of(bench.stages, "right", "--explore", "1", "--again"),
                 1 + STAGES[0])
+    enumerator = build_enumerator(bench, "enumerate-stages", *sources("stages.c", "driver.c"))
+    for words, count, failing in [(["right"], STAGES[0], 0), (["offers:right"], OFFERS[0], 0),
+                                  (["cuts:right"], CUTS, 0), (["exchange:right"], EXCHANGE, 0),
+                                  (["right", "--holds"], HELD, 0),
+                                  *(([name], None, first) for name, first, _ in FAILING)]:
+        got = Enumerated(bench.run(enumerator, *words, "--explore", "1")[1])
+        bench.check(f"counts: enumerated: {words}", (got.tried[1] if count else None, got.outcomes.get(15, (0,))[0]),
+                    (count, failing))
     fast = bench.build("stages-O2", *sources("stages.c", "driver.c"), words=["-O2"])
     bench.check("counts: another build", bench.none_of(fast, "right", "--explore", "2"), 1 + sum(STAGES[:2]))
 
@@ -285,8 +277,8 @@ def races(bench):
 
 
 def drawn(bench):
-    """Runs of drawn schedules have the same answers from saved states and from nothing. State that isn't saved is
-    reported. Too many states end a search.
+    """Runs of drawn schedules have the same answers from saved states and from nothing. Too many states end a
+    search.
     """
     status, out, errors = bench.run(bench.stages, "right", "--check", "--runs", "100")
     bench.check("drawn: check", (status, out.splitlines()[-1:], errors),
@@ -299,15 +291,11 @@ def drawn(bench):
                                        r"fails\n", out))), (NOT_RUN, True))
     for name in RIGHT:
         bench.check(f"drawn: {name}", bench.run(bench.stages, name, "--runs", "300")[::2], (PASSES, ""))
-    forgets = bench.build("forgets", bench.source("forgets.c", FORGETS))
-    status, out, _ = bench.run(forgets, "--check", "--runs", "300")
-    bench.check("drawn: a count that isn't saved", (status, "some of the state of the test isn't saved" in out),
-                (NOT_RUN, True))
 
 
 def left_behind(bench):
     """A search clears some bytes and counters that no run should read again. A run that reads what an earlier frame
-    left still finds it unchanged. A static variable that isn't saved is reported.
+    left still finds it unchanged. A driver with a static variable passes.
     """
     for name, (use, wanted) in USES.items():
         test = bench.build("left", bench.source("left.c",
@@ -320,8 +308,7 @@ def left_behind(bench):
     static = bench.build("static", bench.source("static.c", STATIC))
     for words in ([], ["--explore", "every"]):
         status, out, _ = bench.run(static, *words, "--json")
-        bench.check(f"left behind: a static variable {words}", (status, json.loads(out)["result"]),
-                    (NOT_RUN, "unsaved"))
+        bench.check(f"left behind: a static variable {words}", (status, json.loads(out)["result"]), (PASSES, "passes"))
 
 
 def logs(bench):
@@ -402,13 +389,12 @@ def arguments(bench):
 def pointers(bench):
     """A driver with pointers is explored without a change."""
     driver = os.path.join(bench.folder, "pointers.o")
-    words = [bench.compiler, "-c", "-O1", "-ftrivial-auto-var-init=zero", "-fsanitize=thread",
+    words = [bench.compiler, "-c", "-O1", "-ftrivial-auto-var-init=zero", "-fno-builtin", "-fsanitize=thread",
              "--param=tsan-distinguish-volatile=1"]
     ran = subprocess.run([*words, "-o", driver, *sources("pointers.c")], capture_output=True, text=True)
     bench.check("pointers: the driver is compiled", (ran.returncode, ran.stderr), (0, ""))
     hooks = os.path.join(EXPLORER, "pointers", "hooks.c")
-    test = bench.build("pointers", *sources("pointers_test.c"), hooks, words=[*ZEROED, "-Wl,--wrap=memcpy"],
-                       objects=[driver])
+    test = bench.build("pointers", *sources("pointers_test.c"), hooks, objects=[driver])
     status, out, _ = bench.run(test, "right", "--explore", "every")
     bench.check("pointers: every schedule",
                 (status, out.startswith("every schedule, with any number of deviations, without holds: none of ")),
@@ -482,7 +468,7 @@ def make(folder):
     return bench
 
 
-PARTS = (counts, bugs, all_that_fail, by_priorities, races, drawn, logs, arguments, left_behind, results, pages,
-         pointers, rust, lab, every)
+PARTS = (counts, passes, calls, hooks, schedules, endless, enumerated, bugs, all_that_fail, by_priorities, races, drawn,
+         logs, arguments, left_behind, results, pages, pointers, rust, lab, every)
 
 test_all(make, PARTS)

@@ -36,6 +36,24 @@ RECEIVES = """    x_write(NIC_RDLEN, 128);
             x_settle();
         x_load(16 * next + 12, &status, 1);
 """
+# A test whose accesses depend on the number of its process, so that no run is as one in a new process
+PROCESS = r"""
+#include <nic82540em_explore.h>
+#include <unistd.h>
+static const char *test(void *word)
+{
+    static const uint8_t frame[60] = { 255, 255, 255, 255, 255, 255 };
+    uint64_t descriptor[2] = { 0x800, 0 };
+    uint8_t status;
+    unsigned next = 0;
+    (void)word;
+    x_write(NIC_MTA, (uint32_t)getpid());
+""" + RECEIVES + r"""        next += status & 1;
+    }
+    return 0;
+}
+int main(int count, char **words) { return nic82540em_explore(count, words, test, 0); }
+"""
 # A counter in a static variable that no run sets back, and a fault of two lines that needs escapes in JSON
 COUNTER = r"""
 #include <nic82540em_explore.h>
@@ -139,14 +157,19 @@ def build_all(bench):
 
 
 def unsaved(bench, counter):
-    """A static counter that no run sets back is reported as state that isn't saved, and not as a race."""
+    """A test that depends on what isn't saved is reported as such, and not as a race. A static counter that no run sets
+    back is saved: the test passes.
+    """
+    process = bench.build("process", bench.source("process.c", PROCESS))
     for words in ([], ["--explore", "every"], ["--explore", "1", "--again"], ["--check"], ["--pct", "2"], ["--all"]):
-        status, out, errors = bench.run(counter, *words)
-        got = status, "isn't saved, such as a counter." in out, "fails" in out, errors
-        bench.check(f"unsaved: a counter {words}", got, (NOT_RUN, True, False, ""))
-        status, result = result_of(bench, counter, *words)
-        bench.check(f"unsaved: a counter {words} as JSON", (status, result["result"], result["fault"]),
+        status, out, errors = bench.run(process, *words)
+        got = status, "the test doesn't repeat itself" in out, "fails" in out, errors
+        bench.check(f"unsaved: a process {words}", got, (NOT_RUN, True, False, ""))
+        status, result = result_of(bench, process, *words)
+        bench.check(f"unsaved: a process {words} as JSON", (status, result["result"], result["fault"]),
                     (NOT_RUN, "unsaved", None))
+        status, result = result_of(bench, counter, *words)
+        bench.check(f"unsaved: a counter {words}", (status, result["result"]), (PASSES, "passes"))
 
 
 def faults(bench, counter):
@@ -189,19 +212,19 @@ def template(bench):
                 (status, out.partition("\n\nTo play")[0].replace("late", "my_test") in page), (FOUND, True))
     out = bench.run(late, "--explore", "2", "--all")[1]
     bench.check("template: what all have",
-                "\nall have rx before read ICR\n2 of rx before write TDT; rx before read ICR, such as 6.3 " in out,
+                "\n2 of rx before write TDT; rx before read ICR, such as 6.3 " in out,
                 True)
     return mine
 
 
 def lengths(bench, stages):
-    """A test that is twice as long has 2 to 2.1 times the states, if its halves begin with both rings at the same
+    """A test that is twice as long has about twice the states, if its halves begin with both rings at the same
     slots.
     """
     for name in "exchange:right", "cuts:right", "offers:right", "right":
         states = [int(re.search(r"^(\d+) states", bench.run(stages, f"{times}{name}", "--explore", "every")[1],
                                 re.M)[1]) for times in ("", "2.")]
-        bench.check(f"lengths: {name}, {states}", 2 <= states[1] / states[0] < 2.1, True)
+        bench.check(f"lengths: {name}, {states}", 1.99 < states[1] / states[0] < 2.1, True)
 
 
 def handlers(bench, stopped, looks):
@@ -216,7 +239,7 @@ def handlers(bench, stopped, looks):
     took = resource.getrusage(resource.RUSAGE_CHILDREN).ru_utime - before
     got = status, result["schedule"], result["search"]["smallest"], took < 3
     bench.check(f"handlers: the race of two variables, {took:.1f} s", got,
-                (FOUND, ["0.25 tx before write 0"] * 5, True, True))
+                (FOUND, ["0.25 tx before touch"] * 5, True, True))
     out = bench.run(stopped, "--explore", "5", "--serve", bench.program)[1].splitlines()
     bench.check("handlers: x_touch and --serve",
                 [line for line in out if line.startswith(f"{bench.program} serve")],
@@ -240,12 +263,12 @@ def as_json(bench, stages, longer):
     status, result = result_of(bench, stages, "right")
     search = result["search"]
     got = status, search["tried"], search["first"], search["complete"], search["depth"], result["runs"]
-    bench.check("json: by default", got, (PASSES, [1, 518, 139_447, 25_630_662], 25_770_628, True, None, 1000))
+    bench.check("json: by default", got, (PASSES, [1, 600, 188_346, 40_447_801], 40_636_748, True, None, 1000))
     status, result = result_of(bench, stages, "late", "--explore", "2", "--all")
     search = result["search"]
     got = (status, search["tried"], len(search["failed"]), search["complete"], search["smallest"],
            len(result["schedule"]))
-    bench.check("json: all of two deviations", got, (FOUND, [1, 526, 141_914], 130, True, True, 1))
+    bench.check("json: all of two deviations", got, (FOUND, [1, 608, 191_164], 149, True, True, 1))
     status, result = result_of(bench, stages, "late", "--all", "--runs", "100")
     failed = result["search"]["failed"]
     got = status, result["seed"] == failed[0]["seed"], all(one["fault"] for one in failed), result["search"]["complete"]
@@ -296,7 +319,7 @@ def signals(bench, stages):
     long = [stages, "2right", "--explore", "every"]
     for number, status in (signal.SIGINT, 130), (signal.SIGTERM, 143), (signal.SIGHUP, 129):
         got, out = ended_by(number, 1, *long)
-        form = rf"ended by {number.name}, after \d+ states and [0-9.e+]+ schedules: none of these fails\n"
+        form = rf"ended by {number.name}, after \d+ states and [0-9.e+]+ schedules?: none of these fails\n"
         bench.check(f"signals: {number.name}", (got, bool(re.fullmatch(form, out))), (status, True))
     for words in (long, [stages, "right", "--runs", "1000000000"], [stages, "right", "--check", "--runs", "1000000000"],
                   [stages, "right", "--explore", "8"]):
@@ -341,8 +364,8 @@ def words(bench, stages):
     bench.check("words: -h", (helps[0], helps[1].startswith("Searches the schedules")), (PASSES, True))
     out = bench.run(stages, "late", "--explore", "2", "--all")[1]
     kinds = re.findall(r"^(\d+) of (.*), such as [^\n]*$", out, re.M)
-    bench.check("words: kinds", (len(kinds), kinds[0]), (6, ("3", "rxdone before read ICR")))
-    bench.check("words: larger ones", "such as 4.6 rxdone before read ICR; 107 with others, too\n" in out, True)
+    bench.check("words: kinds", (len(kinds), kinds[0]), (7, ("3", "rxdone before read ICR")))
+    bench.check("words: larger ones", "such as 4.6 rxdone before read ICR; 125 with others, too\n" in out, True)
     bench.check("words: progress", bool(re.search(r"\r\d+ states, [0-9.e+]+ schedules so far\x1b\[K\r",
                                                   progress(stages))), True)
 

@@ -1,5 +1,6 @@
 """The adapter of `nicbench serve`, as a driver and a wire see it."""
 
+import os
 from contextlib import contextmanager
 
 # Where the registers begin.
@@ -110,8 +111,15 @@ class Adapter:
         """
         while self.line and self.handler and self.takes_interrupts:
             self.takes_interrupts = False
+            self.mark("the handler cuts in")
             self.handler()
+            self.mark("the handler returns")
             self.takes_interrupts = True
+
+    def mark(self, text):
+        """Adds a row to the chart of the finder, which sets NIC_MARKS."""
+        if "NIC_MARKS" in os.environ:
+            self.ask_at_once([f"mark {text}"])
 
     @contextmanager
     def interrupts_off(self):

@@ -24,7 +24,8 @@ function cellsAt(which, step) {
     for (let n = 0; n < change.length; n += 2) {
       const name = D.cells[change[n]];
       cells[name] = change[n + 1];
-      if (/^rx\[\d+\]$/.test(name)) buffers.add(change[n + 1].split('/')[2]);
+      const [state, , buffer] = /^[rt]x\[\d+\]$/.test(name) ? change[n + 1].split('/') : 'd';
+      if (name[0] === 'r' || state !== 'd') buffers.add(buffer || '');
       if (number + D.first === step) changed.add(name);
     }
   });
@@ -103,19 +104,20 @@ function descriptor(label, cells) {
 }
 
 function buffersOf(cells, changed, buffers) {
-  const owners = {};
-  for (let n = 0; n < (+cells.rx || 0); n++) {
-    const name = `rx[${n}]`, { state, frame, buffer } = slotOf(cells, name);
-    if (!buffer) continue;
+  const owners = {}, slots = ring => [...Array(+cells[ring] || 0).keys()].map(n => `${ring}[${n}]`);
+  for (const name of [...slots('rx'), ...slots('tx')]) {
+    const { state, frame, buffer } = slotOf(cells, name), ring = name.slice(0, 2);
+    if (!buffer || ring === 'tx' && state === 'd') continue;
     const who = state === 'o' || state === 'p' ? 'the adapter' : 'the driver';
-    (owners[buffer] = owners[buffer] || []).push({ text: `${who}: ${name}, ${D.slots[state]}` +
-      (frame === '' ? '' : `, frame ${frame}`), changed: changed.has(name) });
+    const more = frame === '' ? '' : `, ${frameName(ring, frame)}`;
+    (owners[buffer] = owners[buffer] || []).push({ text: `${who}: ${name}, ${D.slots[state]}${more}`,
+      changed: changed.has(name) });
   }
   const lines = [...buffers].sort((a, b) => a - b).slice(0, 256).map(buffer => {
     const its = owners[buffer] || [{ text: 'the driver', changed: false }];
     return line(its.some(one => one.changed), buffer, its.map(one => one.text).join('; and '));
   });
-  return lines.length ? `<details${buffersAreOpen ? ' open' : ''} id="buffers"><summary>Receive buffers and their owners` +
+  return lines.length ? `<details${buffersAreOpen ? ' open' : ''} id="buffers"><summary>Buffers and their owners` +
     `</summary><table>${lines.join('')}</table></details>` : '';
 }
 let buffersAreOpen = true;

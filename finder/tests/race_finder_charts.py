@@ -21,9 +21,8 @@ from server_pages import read_page
 FILES = ["chart.svg", "chart.txt", "log.txt", "run.vcd", "schedule.txt"]
 MOST_LINES, LONGEST = 25, 155
 
-# The bugs with charts in docs/RACES.md and race_charts.txt, each with the heading of its section
-
 FINISHED = "A frame is finished while the handler runs"
+# The bugs with charts in docs/RACES.md and race_charts.txt, each with the heading of its section
 SECTIONS = {
     "late": FINISHED, "masks-late": FINISHED, "length": "A descriptor is written back between two loads of it",
     "head": "The head has passed a slot that is in progress", "part": "A frame spans several descriptors",
@@ -83,6 +82,7 @@ def pages(server):
 
 COLUMNS = ("place", "driver", "registers", "memory", "adapter", "wire", "line")
 ARROW = re.compile(" (<--+|--+>) ")
+MARK = re.compile(r"^ +(the handler (?:cuts in|returns))\b")
 SVG = "{http://www.w3.org/2000/svg}"
 
 
@@ -102,6 +102,8 @@ def text_rows(text):
         told = arrow and (columns_of(starts, arrow.start(1), arrow.end(1)), ">" in arrow[1])
         line = ARROW.sub(lambda one: " " * len(one[0]), line)
         cells = {name: line[starts[name]:ends[name]].strip() for name in COLUMNS}
+        for mark in MARK.findall(line):  # its text goes over other columns
+            cells.update({"driver": mark, "registers": "", "memory": ""})
         bar = cells.pop("line")
         found.append((line[0], {name: cell for name, cell in cells.items() if cell}, told, bar))
     return found, last.strip()
@@ -121,9 +123,7 @@ def arrow_of(row, starts):
 
 
 def picture_rows(root):
-    """The rows of a picture, in the form of `text_rows`, and its last line. A row has a bar if it is inside of a
-    rectangle of class `bar`.
-    """
+    """The rows of a picture, in the form of `text_rows`, and its last line. A row in a rectangle `bar` has a bar."""
     heading = root.find(f"{SVG}g[@class='heading']")
     starts = {text.get("class"): int(text.get("x")) for text in heading if text.get("class") == text.text}
     bars = [[int(bar.get(key)) for key in ("x", "y", "height")] for bar in root.findall(f"{SVG}rect[@class='bar']")]
@@ -297,7 +297,7 @@ class Wanted:
             self.happen("frame")
         elif words[0] == "fault":
             return  # a dump has the outcome of the step
-        elif words[1] in ("offer", "settle"):
+        elif words[1] in ("offer", "settle", "mark"):
             return
         elif words[1] in ("step", "arrive", "hold"):
             if words[-1] != "nothing":

@@ -15,9 +15,10 @@ from race_finder_output import script
 from server import LIMIT
 
 # Sends `interleave 3`, and runs a script with arguments. Stores in the file argv[1] each line that is read, and the
-# exit status, or the text with which the script exits.
+# exit status, or the text with which the script exits. The script sends no `mark`, which only the finder takes.
 STORED = """
 import os, runpy, sys
+os.environ.pop("NIC_MARKS", None)
 stored = open(sys.argv[1], "wb")
 
 class Reader:

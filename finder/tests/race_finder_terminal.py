@@ -112,14 +112,14 @@ def scenarios(server):
     """tools/run_chart fits the terminal, too: a row states its host."""
     chart = [sys.executable, "-S", "-E", os.path.join(TOP, "tools", "run_chart")]
     scenario = os.path.join(TOP, "examples", "race.scenario")
-    status, _, errors = server.execute(server.program, "run", "--events", "events", scenario, server.folder)
+    status, _, errors = server.execute(server.program, "run", "--events", "race.events", scenario, server.folder)
     server.check("run_chart: the run", status, 0)
-    status, told, errors = on_terminal(server, [*chart, scenario, "events"], 40)
+    status, told, errors = on_terminal(server, [*chart, scenario, "race.events"], 40)
     lines = ESCAPE.sub("", told).splitlines()
     server.check("run_chart: narrow", (status, errors, [line for line in lines if len(line) > 40]), (0, "", []))
     server.check("run_chart: hosts", [text in told for text in ("host a: txput", "host b: rxdata moved")], [True, True])
-    server.check("run_chart: no color", "\x1b" in on_terminal(server, [*chart, "--color", "never", scenario, "events"],
-                                                              40)[1], False)
+    told = on_terminal(server, [*chart, "--color", "never", scenario, "race.events"], 40)[1]
+    server.check("run_chart: no color", ("\x1b" in told, "host a: txput" in told), (False, True))
     server.check("columns", COLUMNS[1], "place")
 
 

@@ -135,6 +135,8 @@ def rules(server):
                          f"\n## {one.section}\n" in text_of("docs", "RACES.md"), True)
     server.holds("rules: there are charts", count > 12, f"{count}")
     run, other = logs_of(server, [*QUEUE, "txstop"], TXSTOP)
+    lanes_of_run = list(dict.fromkeys(step.actor for step in run.steps if step.is_access()))
+    server.check("rules: txstop, the handler has a lane", lanes_of_run, ["driver", "handler"])
     server.check("rules: txstop", [(one.kind, run.steps[one.step][1:4]) for one in reasons(run, other)],
                  [(QUIET, ("read", "6.24", "ICR"))])
 

@@ -11,6 +11,7 @@ import sys
 
 from finder.page.from_scenario import STAGES
 from finder.page.log import Log, RunLog, Step
+from finder.page.state import SEEN, SLOTS
 from finder.page.write import page
 from browser import NAMES, Browser, program
 from harness import TOP, not_run
@@ -76,6 +77,9 @@ def late(server, browser, address, run, other):
     server.check("late: the descriptor",
                  browser.value("[...document.querySelectorAll('#state h2')].map(one => one.textContent)"),
                  ["Registers", "Packet buffers", "Descriptor rx[1], finished"])
+    owners = browser.value("[...document.querySelectorAll('#buffers tr')].map(one => one.textContent)")
+    server.check("late: buffers", [text in owners for text in ("0x10100the driver: rx[1], finished, frame 1",
+                                                             "0x10200the adapter: rx[2], offered")], [True, True])
     server.check("late: what changed", browser.value("document.querySelector('tr.changed').textContent"), "ICR0x0 ")
     picture(browser, "late")
     for key, text, wanted in [("ArrowLeft", "", icr - 1), ("ArrowUp", "", icr - 2), (" ", " ", icr - 1),
@@ -134,6 +138,9 @@ def compares(server, browser, address, run, other):
     first = browser.value("document.querySelector('li.differs').step")
     server.check("compare: rows differ only from the first difference on", [at for at in differs if at < first], [])
     picture(browser, "txstop-compare")
+    owners = browser.value("[...document.querySelectorAll('#buffers tr')].map(one => one.textContent)")
+    sent = f"0x20000the driver: tx[0], {SLOTS[SEEN]}, sent frame 0"
+    server.check("compare: buffers of sent frames", (sent in owners, len(owners)), (True, 8 + 3))
     browser.press("Home")
     browser.press("o", "o")
     server.check("compare: the other run's step", browser.value(STEP), "Step 0 (without deviations)")

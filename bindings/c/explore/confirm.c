@@ -39,6 +39,8 @@ static _Noreturn void be_client(int pipes[PIPES][2])
 {
     dup2(pipes[TO_CLIENT][0], 0), dup2(pipes[TO_SERVER][1], 1), dup2(pipes[CLIENTS_ERRORS][1], 2);
     close_all(pipes);
+    signal(SIGALRM, SIG_DFL);
+    alarm(xi_given.seconds);
     exit(xi_pipe());
 }
 

@@ -1,6 +1,7 @@
 /* Draws schedules, plays given ones, and makes one that fails smaller. */
 #include "inside.h"
 #include <stdio.h>
+#include <stdlib.h>
 #include <string.h>
 
 #define B xi_book
@@ -74,11 +75,34 @@ static void burst(void)
     }
 }
 
+/* Draws whether the handler cuts in here, or is put off, and the answer to x_choose. */
+static void draw_interrupt(void)
+{
+    if (B->event == CHOOSE && S->choices > 1) {
+        unsigned choice = xi_below(S->choices);
+        if (choice)
+            xi_choose(choice);
+    } else if (B->event == CALL && draw() % 4 == 0)
+        xi_deviate(LATE_IRQ);
+    else if (xi_may_cut_in() && draw() & 1)
+        xi_deviate(IRQ);
+}
+
+/* With holds, a step of the EEPROM or of the PHY may also be early. */
+static void draw_fast(void)
+{
+    if (B->event == STEP && draw() % 4 == 0)
+        xi_deviate(HOLD_STEP);
+    for (uint32_t kind = NIC_EEPROM; kind <= NIC_PHY; kind++)
+        if (B->event != CALL && B->event != PAUSE && xi_possible() >> kind & 1 && draw() % 4 == 0)
+            xi_deviate((int)kind);
+}
+
 static void draw_here(uint64_t seed)
 {
     uint64_t chance;
 
-    if (!possible_here())
+    if (!possible_here() || B->event == CALL || B->event == PAUSE)
         return;
     chance = draw();
     if (B->event >= ARRIVE && chance >> 32 & (ROUND - 1))
@@ -105,9 +129,16 @@ static void to_first_round(bool with_holds)
 {
     while (xi_next_place(), B->event != ENDED && B->round == 0)
         if (with_holds)
-            draw_holds();
+            draw_holds(), draw_fast();
         else
             xi_tick();
+}
+
+/* Removes the saved state from which runs are drawn. */
+void xi_forget_first_round(void)
+{
+    free(first_round.bytes);
+    first_round = (struct saved){ 0 };
 }
 
 /* From now on, runs are drawn by PCT of this depth. Counts the actors, and the events of the run without deviations. */
@@ -140,12 +171,14 @@ void xi_draw(uint64_t seed, bool with_holds, bool is_new)
         xi_pct_begin(xi_pct.depth, xi_pct.events);
     for (; B->event != ENDED; xi_next_place()) {
         if (with_holds)
-            draw_holds();
+            draw_holds(), draw_fast();
         xi_tick();
+        if (xi_searches)
+            xi_digest(); /* this also clears what a search clears */
         if (xi_pct.depth)
             xi_pct_here();
         else
-            draw_here(seed);
+            draw_here(seed), draw_interrupt();
     }
 }
 
@@ -154,24 +187,49 @@ static bool is_hold(const struct deviation *one, int stage)
     return one->action == HOLD_EEPROM + stage;
 }
 
-/* Plays the default steps and the deviations of a place. Returns the index of the first later deviation. If `lack`
- * isn't NULL and is empty, it gets the first deviation that names another access or request than the one here. */
-static unsigned play_here(const struct deviation *path, unsigned at, unsigned count, char *lack, size_t room)
+static bool is_here(const struct deviation *one)
+{
+    return one->round == B->round && one->access == B->access && one->sub == B->sub;
+}
+
+/* Whether the run goes on after this deviation */
+static bool is_last(const struct deviation *one)
+{
+    return one->action == IRQ || one->action == LATE_IRQ || one->action == HOLD_STEP || one->action == CHOICE;
+}
+
+/* If this deviation names another access or request than the one here, notes it. */
+static void compare_place(const struct deviation *one, struct lack *lack)
 {
     char name[32], wanted[32];
     struct place here = xi_place();
+    size_t size;
+
+    xi_name(name, sizeof name, &here), xi_name(wanted, sizeof wanted, &one->before);
+    if (!strcmp(name, wanted))
+        return;
+    xi_text(lack->text, sizeof lack->text, one), size = strlen(lack->text);
+    snprintf(lack->text + size, sizeof lack->text - size, ": at this place, the test makes another access: %s", name);
+}
+
+static void play_one(const struct deviation *one)
+{
+    if (one->action == CHOICE)
+        xi_choose(one->choice);
+    else
+        xi_deviate(one->action);
+}
+
+/* Plays the default steps and the deviations of a place, those after an interrupt or an answer excepted. Returns the
+ * index of the first later deviation. `lack` gets the first deviation that names another access. */
+static unsigned play_here(const struct deviation *path, unsigned at, unsigned count, struct lack *lack)
+{
     unsigned end = at;
 
-    while (end < count && path[end].round == B->round && path[end].access == B->access)
+    while (end < count && is_here(&path[end]) && (end == at || !is_last(&path[end - 1])))
         end++;
-    for (unsigned n = at; lack && !lack[0] && n < end; n++) {
-        xi_name(name, sizeof name, &here), xi_name(wanted, sizeof wanted, &path[n].before);
-        if (strcmp(name, wanted)) {
-            xi_text(lack, room, &path[n]);
-            snprintf(lack + strlen(lack), room - strlen(lack), ": at this place, the test makes another access: %s",
-                     name);
-        }
-    }
+    for (unsigned n = at; lack && !lack->text[0] && n < end; n++)
+        compare_place(&path[n], lack);
     for (; B->stage < STAGES; B->stage++) {
         bool is_held = false;
         for (unsigned n = at; n < end; n++)
@@ -183,32 +241,30 @@ static unsigned play_here(const struct deviation *path, unsigned at, unsigned co
     }
     for (unsigned n = at; n < end; n++)
         if (!is_hold(&path[n], 0) && !is_hold(&path[n], 1))
-            xi_deviate(path[n].action);
+            play_one(&path[n]);
     return end;
 }
 
 /* Plays a schedule. If `lack` isn't NULL, it gets the first deviation that doesn't agree with the run, or an empty
  * text. */
-void xi_replay(const struct deviation *path, unsigned count, bool is_new, char *lack, size_t room)
+void xi_replay(const struct deviation *path, unsigned count, bool is_new, struct lack *lack)
 {
     unsigned at = 0;
 
     if (lack)
-        lack[0] = 0;
+        *lack = (struct lack){ "", count };
     xi_begin(is_new);
     for (xi_next_place(); B->event != ENDED; xi_next_place())
-        at = play_here(path, at, count, lack, room);
-    if (lack && !lack[0] && at < count) {
-        xi_text(lack, room, &path[at]);
-        snprintf(lack + strlen(lack), room - strlen(lack), ": the run doesn't reach this place");
-    }
+        at = play_here(path, at, count, lack);
+    if (lack)
+        lack->unreached = at;
 }
 
 /* Plays a schedule. If the run fails with fewer deviations than were kept, keeps these deviations. Returns whether they
  * were kept. */
 static bool keep_shorter(struct found *found, const struct deviation *path, unsigned count)
 {
-    xi_replay(path, count, false, NULL, 0);
+    xi_replay(path, count, false, NULL);
     if (!S->fault || B->path_count >= found->count)
         return false;
     xi_keep(found);

@@ -5,6 +5,7 @@
  */
 #define _GNU_SOURCE
 #include "inside.h"
+#include <poll.h>
 #include <signal.h>
 #include <stdio.h>
 #include <stdlib.h>
@@ -25,7 +26,10 @@ struct answer {
     struct outcome outcome;
 };
 
+enum { SECOND = 1000, PATIENCE = 2 };
+bool xi_is_fresh;
 static int to_server, from_server;
+static pid_t server;
 
 static bool read_all(int from, void *into, size_t size)
 {
@@ -62,13 +66,12 @@ static pid_t forked(void)
 
 static struct outcome play(const struct request *request, const struct deviation *path)
 {
-    xi_compares = true;
     xi_prepare(false);
     xi_pct = request->pct;
     if (request->is_drawn)
         xi_draw(request->seed, xi_given.holds, true);
     else
-        xi_replay(path, request->count, true, NULL, 0);
+        xi_replay(path, request->count, true, NULL);
     return xi_outcome();
 }
 
@@ -82,8 +85,9 @@ static struct answer answer_to(const struct request *request, const struct devia
     if (pipe(pipes))
         xi_die("a pipe can't be made");
     if (!(child = forked())) {
-        struct outcome outcome = play(request, path);
-        fflush(NULL);
+        struct outcome outcome;
+        xi_is_fresh = true, xi_limit_time();
+        outcome = play(request, path);
         _exit(write_all(pipes[1], &outcome, sizeof outcome) ? PASSES : NOT_RUN);
     }
     close(pipes[1]);
@@ -118,24 +122,64 @@ void xi_fresh_begin(void)
 
     if (pipe(requests) || pipe(answers))
         xi_die("a pipe can't be made");
-    if (!forked()) {
+    if (!(server = forked())) {
+        setpgid(0, 0);
         signal(SIGINT, SIG_IGN), signal(SIGTERM, SIG_IGN), signal(SIGHUP, SIG_IGN);
         close(requests[1]), close(answers[0]);
         serve(requests[0], answers[1]);
     }
+    setpgid(server, server);
     close(requests[0]), close(answers[1]);
     to_server = requests[1], from_server = answers[0];
 }
 
+/* Waits for the answer. Returns false if a signal has ended the search, and there is no answer after two seconds. */
+static bool has_answer(void)
+{
+    struct pollfd one = { .fd = from_server, .events = POLLIN };
+    int waited = 0;
+
+    while (poll(&one, 1, SECOND / 10) == 0 || !(one.revents & (POLLIN | POLLHUP)))
+        if (xi_stopped() && ++waited > PATIENCE * 10)
+            return false;
+    return true;
+}
+
+/* The outcome of a run that didn't end before a signal has ended the search. No other run is played from nothing. */
+static struct outcome endless(void)
+{
+    struct outcome outcome = { .fails = true };
+    char byte;
+
+    kill(-server, SIGKILL);
+    while (read(from_server, &byte, 1) > 0)
+        ; /* until both processes have ended */
+    waitpid(server, NULL, 0);
+    server = 0;
+    snprintf(outcome.fault, sizeof outcome.fault, "it doesn't end before SIG%s", sigabbrev_np(xi_stopped()));
+    return outcome;
+}
+
 static struct outcome ask(const struct request *request, const struct deviation *path)
 {
+    static struct outcome last;
     struct answer answer;
 
-    if (!write_all(to_server, request, sizeof *request) || !write_all(to_server, path, request->count * sizeof *path) ||
-        !read_all(from_server, &answer, sizeof answer))
+    if (!server)
+        return last;
+    if (!write_all(to_server, request, sizeof *request) || !write_all(to_server, path, request->count * sizeof *path))
+        xi_die("the process that plays runs from nothing has ended");
+    if (!has_answer())
+        return last = endless();
+    if (!read_all(from_server, &answer, sizeof answer))
         xi_die("the process that plays runs from nothing has ended");
     if (!answer.is_there && WIFEXITED(answer.status) && WEXITSTATUS(answer.status) == NOT_RUN)
         exit(NOT_RUN); /* it has printed why */
+    if (!answer.is_there && WIFSIGNALED(answer.status)) {
+        last = (struct outcome){ .fails = true };
+        snprintf(last.fault, sizeof last.fault, "ended by SIG%s", sigabbrev_np(WTERMSIG(answer.status)));
+        return last;
+    }
     if (!answer.is_there)
         xi_die("the test ends its process");
     return answer.outcome;

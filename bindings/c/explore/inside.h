@@ -3,15 +3,19 @@
 #define NIC82540EM_EXPLORE_INSIDE_H
 
 #include "nic82540em_explore.h"
+#include <signal.h>
 #include <stdio.h>
 
-enum { PAGE = 4096, MOST_AREAS = 128, MOST_FRAMES = 256, MOST_BYTES = 1 << 17, MOST_PATH = 1024, LONGEST = 1518, MOST_OPTIONS = 8,
+enum { PAGE = 4096, MOST_AREAS = 128, MOST_FRAMES = 256, MOST_BYTES = 1 << 17, MOST_PATH = 1024, LONGEST = 1518, MOST_OPTIONS = 32, MOST_ANSWERS = 16,
        MOST_PLACES = 100000 };
 /* What may be done before an access or a request: steps (NIC_TXTAKE to NIC_PHY), and these. DEFAULT is no deviation. */
-enum { TX = NIC_PHY + 1, RX, HOLD_EEPROM, HOLD_PHY, ARRIVAL, ACTIONS, DEFAULT = -1 };
-enum event { READ, WRITE, LOAD, STORE, ARRIVE, STEP, SETTLE, OFFER, ENDED };
+enum { TX = NIC_PHY + 1, RX, HOLD_EEPROM, HOLD_PHY, ARRIVAL, IRQ, LATE_IRQ, HOLD_STEP, CHOICE, ACTIONS, DEFAULT = -1 };
+/* The kinds of places. LINE: the test looks at the line. CALL: the handler is about to cut in after an access. PAUSE: in
+ * x_settle, after a step that asserts the line. These three have no number of their own in a round: they are counted
+ * after the last access, such as 4.5+1. From ARRIVE on, requests begin rounds. */
+enum event { READ, WRITE, LOAD, STORE, TOUCH, CHOOSE, LINE, CALL, PAUSE, ARRIVE, STEP, SETTLE, OFFER, ENDED };
 enum { STAGES = 2 }; /* default steps of a place: of the EEPROM and of the PHY */
-enum { PASSES, FOUND, USAGE, NOT_RUN, NOTHING };
+enum { PASSES, FOUND, USAGE, NOT_RUN, NOTHING, DIFFERS };
 
 struct digest {
     uint64_t one, two;
@@ -27,10 +31,12 @@ struct place {
 };
 
 /* A deviation, and the place before which it is played: a round, and the number of an access in it. 0 is the request
- * that begins the round. */
+ * that begins the round. `sub` counts the places after this access that have no number of their own. `choice` is the
+ * answer to x_choose. */
 struct deviation {
-    unsigned round, access;
+    unsigned round, access, sub;
     int action;
+    unsigned choice;
     struct place before;
 };
 
@@ -43,11 +49,12 @@ struct frames {
 
 /* What is saved, but isn't a part of what is compared: where the run is. */
 struct book {
-    unsigned round, access, places;
+    unsigned round, access, sub, places;
     unsigned moves; /* steps of engines, and arrivals of offered frames, that did something */
     unsigned path_count, did; /* deviations; those that did something */
     int stage, last;                         /* default steps so far; 1 + the last action at this place, or 0 */
     enum event event;
+    bool is_sending; /* a transmit descriptor was stored, and TDT wasn't written since */
     uint64_t address, history; /* of the place; a hash of all answers so far */
     bool knows_possible, knows_digest; /* of the adapter, as it is now */
     unsigned possible;
@@ -66,13 +73,39 @@ struct state {
     struct nic82540em nic;
     size_t heap_used, memory_used, last_block, before_last; /* last_block: where the last one begins */
     const char *fault;
+    uint64_t signal_mask; /* of the test */
     void (*handler)(void);
     bool takes_none; /* whether the handler is kept out */
+    bool cuts_in;    /* the handler cuts in before this access, or between two steps of x_settle */
+    bool is_held;    /* this x_step isn't played */
+    bool is_put_off; /* the handler doesn't cut in after this access */
+    bool is_settling, has_cut_in; /* x_settle runs; the handler has cut in meanwhile */
+    bool is_late;    /* the handler cuts in after the next access, even if the line is lowered by then */
+    unsigned choices, choice; /* of x_choose: how many there are; the one that is taken */
     unsigned offered; /* the number of the offered frame that arrives next */
     unsigned dead_count; /* of the areas that dead.c has noted */
     uint32_t filling; /* 1 + the address of the receive descriptor whose buffer was written, until it is written back */
+    uint64_t filled;  /* the address of this buffer */
     struct area dead[MOST_AREAS];
     struct frames put, arrived, offers;
+};
+
+/* Where the explorer's memory is: the arena, the stack of the test, the test's heap, and what the explorer maps for
+ * itself. Nothing else is mapped from XI_BEGIN to XI_END. */
+#define XI_BEGIN ((uintptr_t)0x200000000000)
+#define XI_STACK ((uintptr_t)0x201000000000)
+#define XI_STACK_GAP ((uintptr_t)1 << 32) /* nothing is mapped in so many bytes below the stack */
+#define XI_HEAP ((uintptr_t)0x202000000000)
+#define XI_HEAP_SIZE ((size_t)1 << 30)
+#define XI_OWN ((uintptr_t)0x204000000000)
+#define XI_END ((uintptr_t)0x300000000000)
+
+/* A page that some run has written, or a part of one, with a copy of it as it was before the first run. `digest` is
+ * that of the copy, or 0 if it wasn't needed yet. */
+struct own {
+    char *at, *base;
+    uint32_t size;
+    struct digest digest;
 };
 
 /* A copy of all that a run has changed. */
@@ -93,17 +126,46 @@ struct outcome {
 extern struct book *const xi_book;
 extern struct state *const xi_state;
 extern bool xi_saves; /* whether states can be saved: else each run begins from nothing */
-extern bool xi_compares; /* whether answers are noted, to be compared */
+extern bool xi_is_history_needless; /* whether no answers of runs are compared */
 extern bool xi_has_touched; /* whether the driver has said by x_touch that it accesses memory */
 extern bool xi_has_handler; /* whether the test has given a handler that cuts in */
 
-_Noreturn void xi_die(const char *why);
+/* memory.c: the test's memory, and what runs have written of it */
+extern struct own *xi_own;
+extern int xi_own_count;
+void *xi_map(size_t size);
+void xi_set_callers(void *frame);
+void xi_watch(void *from, void *to);
+void xi_watch_program(void);
+bool xi_is_first_write(const void *address);
+void xi_find_written(void);
+void xi_to_base(void);
+void xi_unwatch(void);
+
+/* heap.c and malloc.c: memory of malloc */
+extern const bool xi_has_malloc __attribute__((weak)); /* its address is NULL if another library defines malloc */
+void xi_explores(bool now);
+void *xi_alloc(size_t size, size_t align);
+size_t xi_alloc_size(const void *block);
+bool xi_alloc_is_zero(const void *block);
+void xi_free(void *block);
+void xi_watch_heap(void);
+
+/* calls.c: system calls of the test, and signals */
+extern bool xi_prints;
+char xi_pause(void);
+void xi_resume(char before);
+void xi_at_test(bool is_test);
+void xi_block_calls(void);
+void xi_know_thread(void);
+bool xi_is_elsewhere(int number);
+void xi_on(int number, void (*handler)(int, siginfo_t *, void *), int flags);
 
 /* states.c: the arena, saved states and digests */
+_Noreturn void xi_fail(const char *fault);
 void xi_prepare(bool may_save);
 void xi_clear(void);
 void xi_track(void);
-void xi_to_base(void);
 void xi_save(struct saved *saved);
 void xi_restore(const struct saved *saved);
 struct digest xi_digest(void);
@@ -113,7 +175,10 @@ int xi_pages(void);
 void xi_start(void (*function)(void));
 void xi_to_test(void);
 void xi_clear_stack(void);
+void xi_clear_below(void);
 void xi_to_explorer(void);
+bool xi_is_test(void);
+extern volatile unsigned xi_entries; /* how often the test was entered */
 char *xi_stack(void **top); /* the end of the stack of the test; stores its top, if `top` isn't null */
 void xi_set_stack(void *top);
 
@@ -125,7 +190,10 @@ void xi_next_place(void);
 unsigned xi_play(uint32_t kind);
 unsigned xi_possible(void);
 struct digest xi_adapter(void);
+bool xi_may_cut_in(void);
+_Noreturn void xi_end(const char *fault);
 bool xi_deviate(int action);
+bool xi_choose(unsigned choice);
 void xi_tick(void);
 uint64_t xi_answer(uint64_t value);
 void xi_cut_in(void);
@@ -133,7 +201,8 @@ void xi_add_frame(struct frames *frames, const void *bytes, size_t count, uint32
 struct outcome xi_outcome(void);
 
 /* dead.c: what nobody uses again */
-extern bool xi_reads_dead; /* whether a run has read some of this, or may have: then nothing is cleared */
+extern bool xi_reads_dead; /* whether a run may have read any of this: then nothing is cleared */
+extern unsigned xi_dead_used; /* how often a run has read what was cleared */
 extern bool xi_searches; /* whether schedules are searched over saved states: only then, this is cleared */
 void xi_clear_dead(void);
 void xi_dead_register(uint32_t offset);
@@ -149,6 +218,7 @@ void xi_name(char *into, size_t room, const struct place *place);
 void xi_text(char *into, size_t room, const struct deviation *one);
 void xi_print(FILE *file, const struct deviation *path, unsigned count);
 int xi_read_schedule(const char *path, struct deviation *into);
+_Noreturn void xi_refuse(const char *path, unsigned number, const char *why);
 
 extern const char *const xi_outcomes[9], *const xi_fates[5];
 
@@ -167,10 +237,12 @@ struct found { /* what a search has shown */
     double schedules, tried[DEEPEST + 1]; /* that were tried: all, and by their numbers of deviations */
     size_t states;
     bool is_complete; /* all schedules were tried */
+    bool differs; /* this run differs from that of the same schedule from nothing, which has the fault `fresh` */
     unsigned count;
     struct deviation path[MOST_PATH];
-    char fault[128];
+    char fault[128], fresh[128];
 };
+extern uint64_t xi_repeated; /* runs of searches that were played again from nothing */
 void xi_explore(int depth, bool with_holds, bool finds_all, size_t most_states, struct found *found);
 void xi_keep(struct found *found);
 unsigned xi_below(unsigned end);
@@ -179,15 +251,21 @@ extern struct pct {
 } xi_pct;
 void xi_set_pct(unsigned depth);
 void xi_draw(uint64_t seed, bool with_holds, bool is_new);
-void xi_replay(const struct deviation *path, unsigned count, bool is_new, char *lack, size_t room);
+/* What doesn't agree with a run that is replayed: a text, and the first deviation whose place the run doesn't reach */
+struct lack {
+    char text[128];
+    unsigned unreached;
+};
+void xi_replay(const struct deviation *path, unsigned count, bool is_new, struct lack *lack);
 void xi_shrink(struct found *found);
+void xi_forget_first_round(void);
 
 /* words.c: what the words of the command ask for */
 enum { DRAWN = -2 };
 extern struct given {
     int depth; /* of an exploration, EVERY or DRAWN */
     uint64_t runs, seed, states;
-    unsigned pct;
+    unsigned pct, seconds;
     bool holds, json, check, again, pipe, all, log;
     const char *replay, *out, *serve;
 } xi_given;
@@ -201,9 +279,16 @@ void xi_pct_begin(unsigned depth, unsigned events);
 void xi_pct_here(void);
 
 /* fresh.c: runs in memory as it was before the first run */
+extern bool xi_is_fresh; /* whether this process plays one such run */
 void xi_fresh_begin(void);
 struct outcome xi_fresh_play(const struct deviation *path, unsigned count);
 struct outcome xi_fresh_draw(uint64_t seed);
+
+/* seen.c: what the runs have seen */
+void xi_see_ring(bool sends, bool is_step);
+void xi_see_fate(uint32_t fate);
+void xi_see_handler(bool in_send);
+void xi_say_seen(void);
 
 /* kinds.c: schedules and seeds that fail */
 void xi_add_failed(const struct deviation *path, unsigned count, const char *fault);
@@ -226,6 +311,10 @@ void xi_confirm_found(void);
 int xi_finish(const char *result, int status);
 
 /* tell.c: what is printed, and signals */
+extern FILE *xi_out, *xi_errors;
+void xi_open(bool shares);
+_Noreturn void xi_die(const char *why);
+_Noreturn void xi_die_of(const char *what, const char *name);
 void xi_say(const char *format, ...) __attribute__((format(printf, 1, 2)));
 void xi_progress(const char *format, ...) __attribute__((format(printf, 1, 2)));
 bool xi_is_time(void);
@@ -233,6 +322,10 @@ const char *xi_number(double number);
 void xi_print_string(FILE *file, const char *text);
 void xi_print_lines(FILE *file, const struct deviation *path, unsigned count);
 void xi_listen(void);
+void xi_limit_time(void);
+void xi_begin_time(void);
+void xi_end_time(void);
+bool xi_is_late(void);
 int xi_stopped(void);
 const char *xi_why(void);
 
@@ -251,6 +344,7 @@ void xi_pipe_load(uint64_t address, void *into, size_t count);
 void xi_pipe_store(uint64_t address, const void *bytes, size_t count);
 uint32_t xi_pipe_request(enum event event, uint32_t kind, const void *frame, size_t count);
 bool xi_pipe_line(void);
+unsigned xi_pipe_choose(unsigned count);
 void xi_pipe_mark(const char *text);
 
 #endif

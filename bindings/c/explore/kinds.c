@@ -105,7 +105,7 @@ void xi_print_failed(void)
 {
     if (list)
         fflush(list);
-    printf("[%s]", list ? list_text : "");
+    fprintf(xi_out, "[%s]", list ? list_text : "");
 }
 
 /* Whether a kind has all deviations of another one, in their order */

@@ -10,11 +10,12 @@ static bool was_raised;
 /* Begins the line of the place at which the run is. */
 static void begin(void)
 {
-    char name[32];
+    char name[32], number[32];
     struct place here = xi_place();
 
     xi_name(name, sizeof name, &here);
-    printf("  %u.%-4u %s", xi_book->round, xi_book->access, name);
+    snprintf(number, sizeof number, xi_book->sub ? "%u+%u" : "%u", xi_book->access, xi_book->sub);
+    printf("  %u.%-4s %s", xi_book->round, number, name);
 }
 
 static void print_bytes(const uint8_t *bytes, size_t count)
@@ -63,6 +64,10 @@ void xi_log_touch(uint64_t address)
     if (!xi_given.log)
         return;
     begin();
+    if (xi_book->event == TOUCH)
+        printf("\n");
+    if (xi_book->event == TOUCH)
+        return;
     size = nic82540em_memory(&xi_state->nic, &host);
     count = address < size ? (size_t)(size - address) : 0;
     printf(" by a pointer%s", xi_book->event == LOAD ? ", where these bytes are: " : "\n");

@@ -3,12 +3,16 @@
 #include <stdio.h>
 #include <stdlib.h>
 #include <string.h>
+#include <sys/stat.h>
+#include <unistd.h>
 
 const char *const xi_actions[ACTIONS] = { "txtake", "txput", "rxdata", "rxdone", "eeprom", "phy", "tx", "rx",
-                                          "hold eeprom", "hold phy", "arrive" };
+                                          "hold eeprom", "hold phy", "arrive", "irq", "late irq", "hold step",
+                                          "choose" };
 const char *const xi_outcomes[9] = { "nothing", "took", "put", "wirefull", "part", "moved", "done", "ticked", "fault" };
 const char *const xi_fates[5] = { "off", "illegal", "filtered", "missed", "stored" };
-static const char *const events[] = { "read", "write", "read", "write", "arrive", "step", "settle", "offer" };
+static const char *const events[] = { "read", "write", "read", "write", "touch", "choose", "line", "handler", "settle",
+                                      "arrive", "step", "settle", "offer" };
 static const struct nic82540em_register registers[] = {
     { "CTRL", NIC_CTRL },   { "STATUS", NIC_STATUS }, { "EERD", NIC_EERD },   { "MDIC", NIC_MDIC },
     { "VET", NIC_VET },     { "ICR", NIC_ICR },       { "ICS", NIC_ICS },     { "IMS", NIC_IMS },
@@ -60,7 +64,7 @@ void xi_name(char *into, size_t room, const struct place *place)
 
     if (place->text)
         snprintf(into, room, "%s", place->text);
-    else if (event >= ARRIVE)
+    else if (event >= TOUCH)
         snprintf(into, room, "%s", event == ENDED ? "the end" : events[event]);
     else if (event <= WRITE)
         name_register(into, room, events[event], (uint32_t)place->address);
@@ -75,10 +79,14 @@ void xi_name(char *into, size_t room, const struct place *place)
 /* A deviation as a line of a schedule */
 void xi_text(char *into, size_t room, const struct deviation *one)
 {
-    char name[32];
+    char name[32], sub[16] = "", choice[16] = "";
 
     xi_name(name, sizeof name, &one->before);
-    snprintf(into, room, "%u.%u %s before %s", one->round, one->access, xi_actions[one->action], name);
+    if (one->sub)
+        snprintf(sub, sizeof sub, "+%u", one->sub);
+    if (one->action == CHOICE)
+        snprintf(choice, sizeof choice, " %u", one->choice);
+    snprintf(into, room, "%u.%u%s %s%s before %s", one->round, one->access, sub, xi_actions[one->action], choice, name);
 }
 
 void xi_print(FILE *file, const struct deviation *path, unsigned count)
@@ -96,31 +104,74 @@ static _Noreturn void refuse(const char *path, unsigned line, const char *why)
     exit(USAGE);
 }
 
+/* Reads a number in decimal digits, and moves `at` after it. Returns false if there is none, or if it is above 2^32 - 1.
+ */
+static bool read_number(const char **at, unsigned *into)
+{
+    uint64_t value = 0;
+    const char *first = *at;
+
+    while (**at >= '0' && **at <= '9' && value <= UINT32_MAX)
+        value = 10 * value + (uint64_t)(*(*at)++ - '0');
+    *into = (unsigned)value;
+    return *at > first && value <= UINT32_MAX;
+}
+
+/* Reads a place such as 4.6 or 4.6+1, and the spaces after it. */
+static bool read_place(const char **at, struct deviation *into)
+{
+    into->sub = 0;
+    if (!read_number(at, &into->round) || *(*at)++ != '.' || !read_number(at, &into->access))
+        return false;
+    if (**at == '+' && (++*at, !read_number(at, &into->sub)))
+        return false;
+    if (**at != ' ')
+        return false;
+    *at += strspn(*at, " ");
+    return true;
+}
+
+/* Reads what is done, such as rx, late irq or choose 2. */
+static bool read_action(const char *text, struct deviation *into)
+{
+    size_t size = strlen(xi_actions[CHOICE]);
+
+    into->choice = 0;
+    if (!strncmp(text, xi_actions[CHOICE], size) && text[size] == ' ') {
+        const char *number = text + size + 1;
+        into->action = CHOICE;
+        return read_number(&number, &into->choice) && !*number && into->choice;
+    }
+    for (into->action = 0; into->action < CHOICE && strcmp(text, xi_actions[into->action]);)
+        into->action++;
+    return into->action < CHOICE;
+}
+
 /* Reads one deviation in a line such as 4.6 rx before read ICR. Returns what is wrong, or NULL. */
 static const char *read_deviation(char *line, struct deviation *into)
 {
-    char *before = strstr(line, " before "), *rest;
-    int size = 0;
+    char *before = strstr(line, " before ");
+    const char *at = line;
 
-    if (sscanf(line, "%u.%u %n", &into->round, &into->access, &size) < 2 || !size)
-        return "it doesn't begin with a place, such as 4.6";
+    if (!read_place(&at, into))
+        return "it doesn't begin with a place, such as 4.6, of numbers up to 4294967295";
     if (!before)
         return "no access is named: end the line with one, such as 'before read ICR'";
-    *before = 0, rest = before + 8;
-    for (into->action = 0; into->action < ACTIONS && strcmp(line + size, xi_actions[into->action]);)
-        into->action++;
-    if (into->action == ACTIONS)
+    *before = 0;
+    if (before < at || !read_action(at, into))
         return "it has no deviation, such as rx";
-    into->before = (struct place){ ENDED, 0, 0, strdup(rest) };
+    into->before = (struct place){ ENDED, 0, 0, strdup(before + strlen(" before ")) };
     return NULL;
 }
 
 static bool is_before(const struct deviation *one, const struct deviation *other)
 {
-    return one->round < other->round || (one->round == other->round && one->access < other->access);
+    if (one->round != other->round)
+        return one->round < other->round;
+    return one->access != other->access ? one->access < other->access : one->sub < other->sub;
 }
 
-/* Skips the rest of a line. Only the first 255 bytes of a line are read. */
+/* Skips the rest of a line. */
 static void skip_line(FILE *file)
 {
     for (int c = fgetc(file); c != EOF && c != '\n';)
@@ -133,25 +184,62 @@ static _Noreturn void refuse_file(const char *path)
     exit(USAGE);
 }
 
+enum { LONGEST_LINE = 255, NO_LINE = -1 };
+
+/* Reads a line of at most 255 characters without its end. Returns NO_LINE at the end of the file, or else the number of
+ * its characters, which is above 255 if it is longer. `has_zero` becomes true if one of them is a zero byte. */
+static int read_line(FILE *file, char *into, bool *has_zero)
+{
+    int c = fgetc(file), count = 0;
+
+    if (c == EOF)
+        return NO_LINE;
+    for (; c != EOF && c != '\n' && count <= LONGEST_LINE; c = fgetc(file)) {
+        *has_zero |= c == 0;
+        if (count < LONGEST_LINE)
+            into[count] = (char)c;
+        count++;
+    }
+    into[count < LONGEST_LINE ? count : LONGEST_LINE] = 0;
+    return count;
+}
+
+static unsigned lines[MOST_PATH]; /* of the deviations that were read, the numbers of their lines */
+
+/* Ends the program because of a deviation that was read. */
+_Noreturn void xi_refuse(const char *path, unsigned number, const char *why)
+{
+    refuse(path, lines[number], why);
+}
+
 /* Reads the deviations of a schedule. Returns their number. The program ends if the file can't be read, a line is
  * wrong, lines aren't sorted by place, or there are more than 1,024 deviations. */
 int xi_read_schedule(const char *path, struct deviation *into)
 {
     FILE *file = fopen(path, "r");
-    char line[256];
-    int count = 0;
+    struct stat kind;
+    char line[LONGEST_LINE + 1];
+    bool has_zero = false;
+    int count = 0, size;
 
     if (!file)
         refuse_file(path);
-    for (unsigned number = 1; fgets(line, sizeof line, file); number++) {
+    if (fstat(fileno(file), &kind) || (S_ISCHR(kind.st_mode) && !isatty(fileno(file)) && strcmp(path, "/dev/null")) ||
+        S_ISBLK(kind.st_mode))
+        refuse(path, 1, "it is a device");
+    for (unsigned number = 1; (size = read_line(file, line, &has_zero)) != NO_LINE; number++) {
         char *comment = line[0] == '#' ? line : strstr(line, " #");
         const char *wrong;
-        if (!strchr(line, '\n'))
+        if (has_zero)
+            refuse(path, number, "it has a zero byte, so it isn't text");
+        if (size > LONGEST_LINE && !comment)
+            refuse(path, number, "it has more than 255 characters");
+        if (size > LONGEST_LINE)
             skip_line(file);
         if (comment)
             *comment = 0;
-        for (size_t size = strlen(line); size && (unsigned char)line[size - 1] <= ' ';)
-            line[--size] = 0;
+        for (size_t end = strlen(line); end && (unsigned char)line[end - 1] <= ' ';)
+            line[--end] = 0;
         if (!line[0] || !strncmp(line, "options", 7))
             continue;
         if (count == MOST_PATH)
@@ -160,7 +248,7 @@ int xi_read_schedule(const char *path, struct deviation *into)
             refuse(path, number, wrong);
         if (count && is_before(&into[count], &into[count - 1]))
             refuse(path, number, "sort the lines by place");
-        count++;
+        lines[count++] = number;
     }
     if (ferror(file))
         refuse_file(path);

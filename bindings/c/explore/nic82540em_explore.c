@@ -6,7 +6,7 @@
 #include <time.h>
 #include <unistd.h>
 
-enum { STATES_SMALLER = 500000, DEEPEST_FIRST = 3, STATES_FIRST = 10000, COMPARED = 32 };
+enum { STATES_SMALLER = 500000, DEEPEST_FIRST = 3, STATES_FIRST = 10000, COMPARED = 32, FEW = 2 };
 
 static struct found *const found = &xi_result.found;
 static uint64_t deviations, compared; /* above 0 if a deviation did something; the number of compared runs */
@@ -20,7 +20,7 @@ static const char *plural(uint64_t count)
 static const char *searched(int depth)
 {
     static char text[96];
-    const char *holds = xi_given.holds ? "with holds" : "without holds";
+    const char *holds = xi_given.holds ? "with holds and fast steps" : "without holds";
 
     if (depth == EVERY)
         snprintf(text, sizeof text, "every schedule, with any number of deviations, %s", holds);
@@ -47,8 +47,8 @@ static int found_status(void)
 
 static int unrepeatable(void)
 {
-    xi_say("The schedule of %u deviation%s passes when it is played from nothing. What does the test keep outside of"
-           " its stack and x_memory? Or does it use a clock, threads or random numbers?\n",
+    xi_say("The schedule of %u deviation%s passes when it is played from nothing. Does the test use a clock, random"
+           " numbers, or what another process changes?\n",
            found->count, plural(found->count));
     return xi_finish("unrepeatable", FOUND);
 }
@@ -101,8 +101,11 @@ static int ended(void)
 /* Reports a search in which no run fails. Returns the exit status. */
 static int passes(void)
 {
-    if (compared)
-        xi_say("%llu drawn runs from saved states have the answers of runs from nothing\n", (unsigned long long)compared);
+    if (compared || xi_repeated)
+        xi_say("%llu drawn runs and %llu runs of the search have the answers of runs from nothing\n",
+               (unsigned long long)compared, (unsigned long long)xi_repeated);
+    if (!xi_given.check)
+        xi_say_seen();
     if (xi_has_handler && !xi_has_touched)
         xi_say("the handler cut in only after accesses and requests: between two variables, it does so with x_touch\n");
     return xi_finish("passes", PASSES);
@@ -118,21 +121,54 @@ static void note_search(int depth)
     deviations += found->count || found->schedules > 1;
 }
 
-/* Tries all schedules of up to this number of deviations, or EVERY one. Returns whether the search has come to its end,
+static const char *ended_by(const char *fault)
+{
+    static char text[2][160];
+    static int turn;
+
+    turn = !turn;
+    snprintf(text[turn], sizeof *text, fault[0] ? "fails (%s)" : "passes%s", fault);
+    return text[turn];
+}
+
+/* A run of the search isn't as its schedule from nothing. Returns the exit status. */
+static int wrong_search(void)
+{
+    xi_say("a run of the search %s, but its schedule, played from nothing, %s%s. So this search isn't right. Does the test"
+           " use a clock, random numbers, or what another process changes?\n", ended_by(found->fault),
+           ended_by(found->fresh), strcmp(found->fault, found->fresh) ? "" : " with other accesses or answers");
+    xi_show();
+    return xi_finish("differs", DIFFERS);
+}
+
+/* Tries all schedules of up to this number of deviations, or EVERY one. If the search is wrong, ends the program. Returns whether the search has come to its end,
  * or to a schedule that fails. */
 static bool explore(int depth, uint64_t most, bool finds_all)
 {
+    xi_is_history_needless = false;
     xi_explore(depth, xi_given.holds, finds_all, most, found);
     note_search(depth);
+    if (found->differs)
+        exit(wrong_search());
     return found->is_complete || (found->fails && !finds_all);
 }
 
-/* Makes the schedule that was found shorter. Then looks for one with fewer deviations, or with as many at earlier
- * places; all with fewer than `least` pass. Returns whether the one that is left is the smallest. */
+/* Looks for a schedule that fails with one or two deviations. If there is none, makes the schedule that was found
+ * shorter. Then looks for one with fewer deviations, or with as many at earlier places; all with fewer than `least` pass. Returns whether the one that is left is the smallest. */
 static bool make_smaller(int least)
 {
     static struct found first;
 
+    first = *found;
+    for (; least <= FEW && least < (int)first.count; least++) {
+        bool is_complete = explore(least, STATES_SMALLER, false) && !xi_stopped();
+        if (is_complete && found->fails)
+            return true;
+        if (!is_complete)
+            break;
+        tried = least;
+    }
+    *found = first;
     xi_shrink(found);
     first = *found;
     for (int depth = least; depth <= (int)first.count && depth <= DEEPEST; depth++) {
@@ -233,8 +269,7 @@ static int add_failed_run(uint64_t seed)
 
 static int unsaved(const char *run)
 {
-    xi_say("%s: some of the state of the test isn't saved, such as a counter. Keep it on the stack of the test or in"
-           " x_memory, and not in static variables. Or does the test use a clock, threads or random numbers?\n", run);
+    xi_say("%s: the test doesn't repeat itself. Does it use a clock, random numbers, or what another process changes?\n", run);
     return xi_finish("unsaved", NOT_RUN);
 }
 
@@ -253,16 +288,33 @@ static int differs(uint64_t seed)
     return unsaved(text);
 }
 
-/* Draws 32 runs from a saved state. Returns the exit status if one isn't as the run of its seed from nothing, or -1. */
+/* Draws 32 runs from a saved state, and clears in them what a search clears. A run that reads some of this is drawn
+ * again. Returns the exit status if a run doesn't end, or isn't as the run of its seed from nothing, or else -1. */
 static int compare_some(void)
 {
-    for (; compared < COMPARED; compared++) {
-        xi_draw(compared + 1, xi_given.holds, false);
-        if (!is_repeated(compared + 1))
-            return differs(compared + 1);
+    int status = -1;
+
+    xi_searches = true;
+    while (compared < COMPARED && !xi_stopped() && status < 0) {
+        uint64_t seed = compared + 1;
+        unsigned used = xi_dead_used;
+        bool all = xi_reads_dead;
+        xi_draw(seed, xi_given.holds, false);
+        if (used != xi_dead_used || all != xi_reads_dead) {
+            xi_forget_first_round();
+            continue;
+        }
+        if (xi_is_late()) {
+            xi_keep(found);
+            xi_say("seed %llu: %s\n", (unsigned long long)seed, found->fault);
+            status = report(0);
+        } else if (!is_repeated(seed))
+            status = differs(seed);
+        compared++;
     }
-    xi_compares = false;
-    return -1;
+    xi_searches = false;
+    xi_forget_first_round();
+    return status;
 }
 
 /* Draws runs, each from a saved state if states are saved, and with --check also from nothing. Returns the exit status,
@@ -272,6 +324,7 @@ static int draw(void)
     clock_t begun = clock();
     int status;
 
+    xi_is_history_needless = !xi_given.check;
     for (uint64_t n = 0; n < xi_given.runs && !xi_stopped(); n++) {
         uint64_t seed = xi_given.seed + n;
         xi_draw(seed, xi_given.holds, !xi_saves);
@@ -348,22 +401,38 @@ static int by_draws(void)
     return passes();
 }
 
+/* A deviation of the schedule is at a place that the run doesn't reach. Returns the exit status. */
+static int unreached(unsigned number)
+{
+    static const char why[] = "the run doesn't reach this place";
+
+    snprintf(found->fault, sizeof found->fault, "%s", why);
+    xi_finish("mismatch", USAGE);
+    fflush(xi_out);
+    xi_refuse(xi_given.replay, number, why);
+}
+
 static int replay(void)
 {
-    char lack[sizeof found->fault];
+    struct lack lack;
+    bool is_unreached;
 
     found->count = (unsigned)xi_read_schedule(xi_given.replay, found->path);
-    xi_replay(found->path, found->count, true, lack, sizeof lack);
-    if (lack[0])
-        xi_say("%s\n", lack);
+    xi_replay(found->path, found->count, true, &lack);
+    is_unreached = !lack.text[0] && lack.unreached < found->count;
+    if (lack.text[0])
+        xi_say("%s\n", lack.text);
     found->fails = xi_state->fault;
     if (found->fails)
         snprintf(found->fault, sizeof found->fault, "%s", xi_state->fault);
     xi_say("%s\n", found->fails ? found->fault : "The test passes.");
     xi_confirm_found();
-    if (lack[0] && !found->fails)
-        snprintf(found->fault, sizeof found->fault, "%s", lack);
-    return xi_finish(found->fails ? "fails" : lack[0] ? "mismatch" : "passes", found->fails || lack[0] ? FOUND : PASSES);
+    if (is_unreached)
+        return unreached(lack.unreached);
+    if (lack.text[0] && !found->fails)
+        snprintf(found->fault, sizeof found->fault, "%s", lack.text);
+    return xi_finish(found->fails ? "fails" : lack.text[0] ? "mismatch" : "passes",
+                     found->fails || lack.text[0] ? FOUND : PASSES);
 }
 
 /* Plays the run without deviations from nothing, and then twice here. Returns the exit status if the run fails, or if a
@@ -378,7 +447,7 @@ static int play_first(void)
         return report(0);
     }
     for (int n = 1; n <= 2; n++) {
-        xi_replay(NULL, 0, true, NULL, 0);
+        xi_replay(NULL, 0, true, NULL);
         if (xi_outcome().history != outcome.history)
             return unsaved("the second run isn't as the first one, without any deviation");
     }
@@ -387,41 +456,63 @@ static int play_first(void)
 
 void __asan_init(void) __attribute__((weak)); /* it is there if AddressSanitizer is linked */
 
+/* Whether memory of the program can be protected here, and copied. */
+static bool may_watch(void)
+{
+    const char *preloaded = getenv("LD_PRELOAD"); /* valgrind sets it */
+    bool is_valgrind = preloaded && strstr(preloaded, "vgpreload");
+
+    return &xi_has_malloc && !is_valgrind && !__asan_init && sysconf(_SC_PAGESIZE) == PAGE;
+}
+
 /* Whether the stack and the pages of a run can be saved here. */
 static bool may_save(void)
 {
 #if !(defined(__x86_64__) || defined(__aarch64__))
     return false;
 #else
-    const char *preloaded = getenv("LD_PRELOAD"); /* valgrind sets it */
-    bool is_valgrind = preloaded && strstr(preloaded, "vgpreload");
-
-    return !xi_given.again && !is_valgrind && !__asan_init && sysconf(_SC_PAGESIZE) == PAGE;
+    return !xi_given.again && may_watch();
 #endif
 }
 
-int nic82540em_explore(int count, char **words, const char *(*test)(void *), void *argument)
+/* Searches as the words ask for. Returns the exit status. */
+static int searched_status(void)
 {
     int status;
 
-    xi_take_words(count, words);
-    xi_set_test(test, argument);
-    if (xi_given.pipe)
-        return xi_pipe();
-    if (xi_given.replay) {
-        xi_prepare(false);
-        return replay();
-    }
     xi_listen();
     xi_fresh_begin();
     xi_prepare(false);
-    xi_compares = true;
+    if (may_watch())
+        xi_watch_program(), xi_watch_heap();
+    xi_limit_time();
     if ((status = play_first()) >= 0)
         return status;
     xi_prepare(may_save());
     xi_begin(true);
     if (xi_saves && !xi_given.check && (status = compare_some()) >= 0)
         return status;
-    xi_compares = xi_given.check;
     return xi_given.depth != DRAWN && !xi_given.check ? by_depth() : by_draws();
+}
+
+int nic82540em_explore(int count, char **words, const char *(*test)(void *), void *argument)
+{
+    int status;
+
+    xi_explores(true);
+    xi_know_thread();
+    xi_set_callers(__builtin_dwarf_cfa());
+    xi_take_words(count, words);
+    xi_set_test(test, argument);
+    xi_prints = xi_given.pipe || xi_given.replay;
+    xi_open(xi_prints);
+    if (xi_given.pipe)
+        status = xi_pipe();
+    else if (xi_given.replay)
+        xi_prepare(false), xi_limit_time(), status = replay();
+    else
+        status = searched_status(), xi_unwatch();
+    xi_end_time();
+    xi_explores(false);
+    return status;
 }

@@ -4,20 +4,21 @@
  * Before each access of the driver and each request of the test, a schedule may let the adapter take steps, and offered
  * frames arrive. The explorer runs the test with one schedule after another. If the test fails with one, the explorer
  * looks for a schedule with fewer deviations, and prints the smallest one that it has found. docs/RACES.md describes
- * the searches, and what a pass means.
+ * the searches, and what a pass means. A call with a wrong argument, such as NULL for bytes, ends the run, which fails.
  *
  *     static const char *receives(void *word) { .. }
  *     int main(int count, char **words) { return nic82540em_explore(count, words, receives, "wrong"); }
  *
  * Rules for the test and its driver:
- *   - All that they change and use again is on the stack of the test, or in memory of x_memory, and not in a static
- *     variable. A static pointer is right if the test sets the pointer at its start, such as `t = x_memory(sizeof *t)`:
- *     by this pointer, a handler finds the driver. A search first compares some runs from saved states with runs from
- *     nothing, to find what is kept elsewhere, such as a counter.
- *   - They use no clock, no threads, no random numbers, and no input.
+ *   - All memory that they write is a part of the test's state: the stack, static and thread-local variables, memory of
+ *     malloc and x_memory, and the C library's own variables. Each run begins with this memory as it was when
+ *     nic82540em_explore was called, and afterwards it is so again. What the test prints is printed only by --replay.
+ *   - They use no clock, no random numbers and no input, open no file, and start no process and no thread. On x86-64, a
+ *     system call for one of these ends the search, and is named.
  *   - The test passes without deviations, so it calls x_step or x_settle itself.
- *   - A driver that shares variables with its handler calls x_touch before it uses one. Without x_touch, the handler
- *     cuts in only after accesses, requests and x_interrupts, and no race between two variables is found.
+ *   - A driver that shares variables with its handler calls x_touch before it uses one, or is compiled with the hooks of
+ *     pointers/hooks.c. Without both, the handler cuts in only before and after accesses and requests, and no race
+ *     between two variables is found.
  *   - Requests (x_arrive, x_offer, x_step, x_settle) are calls of the test, and not of the driver.
  */
 #ifndef NIC82540EM_EXPLORE_H
@@ -31,8 +32,8 @@ extern "C" {
 
 /* Searches as the words of the command ask for: `--help` prints the options. Words before the first option belong to
  * the test. Returns the exit status, or ends the process with it. 0: no schedule fails. 1: one fails. 2: a word or a
- * schedule is invalid. 3: the explorer can't go on. 4: nothing was searched. If a signal has ended the search, the
- * status is 128 plus its number. */
+ * schedule is invalid. 3: the explorer can't go on. 4: nothing was searched. 5: a run of the search isn't as its schedule
+ * played from nothing, so the search is wrong. If a signal has ended the search, the status is 128 plus its number. */
 int nic82540em_explore(int count, char **words, const char *(*test)(void *argument), void *argument);
 
 /* The options of the adapter: NIC82540EM_DEFAULTS, unless they are changed before nic82540em_explore is called. */
@@ -46,22 +47,33 @@ void x_write(uint32_t offset, uint32_t value);
 void x_load(uint64_t address, void *into, size_t count);
 void x_store(uint64_t address, const void *bytes, size_t count);
 
-/* The driver is about to access memory by a pointer, or a variable that it shares with its handler (address 0). Before
+/* The driver is about to access memory by a pointer, or a variable that it shares with its handler (address 0: `touch`
+ * in schedules). Before
  * it, steps and deviations may be played as before x_load or, if `is_store` is true, x_store. x_host returns the
  * address of the host's memory, and stores its size in bytes. */
 void x_touch(bool is_store, uint64_t address);
 uint8_t *x_host(uint64_t *size);
 
+/* For compilers' hooks, as those of pointers/hooks.c: the driver is about to access memory by a pointer. An access of the
+ * host's memory is a place, and so is one of a variable that the handler may share, while a handler may cut in. */
+void x_access(bool is_store, const void *at);
+
 /* The requests of the test. Each begins a round, as with `nicbench serve`. Before each, deviations may be played.
  * Frames have no checksum. */
 uint32_t x_arrive(const void *frame, size_t count); /* a frame arrives; returns its fate */
 void x_offer(const void *frame, size_t count);      /* a frame arrives by the schedule, or in the next x_settle */
-uint32_t x_step(uint32_t kind);                     /* a step of the adapter; returns its outcome */
-uint64_t x_settle(void); /* all offered frames arrive, and then cycles are played until one does nothing; returns the
-                          * number of steps with another outcome than NIC_NOTHING or NIC_WIREFULL */
+uint32_t x_step(uint32_t kind); /* a step of the adapter; returns its outcome, or NIC_REFUSED if there is no such kind */
+uint64_t x_settle(void); /* all offered frames arrive, and then cycles are played until one does nothing. Returns the
+                          * number of frames that arrived, and of steps with another outcome than NIC_NOTHING or
+                          * NIC_WIREFULL, and 1 more if the handler has cut in, or is late. So after it returns 0,
+                          * nothing is left */
 
-/* Returns whether the interrupt line is asserted. */
+/* Returns whether the interrupt line is asserted. Before it looks, deviations may be played. */
 bool x_line(void);
+
+/* A choice of the test: returns 0, or by a deviation another number below `count`, which is 1 to 16. So a test can decide
+ * whether a timer fires, the driver is closed, or memory is refused. */
+unsigned x_choose(unsigned count);
 
 /* The frames that were put on the wire, and those that arrived, with any fate, each from number 0 on. x_put and
  * x_arrived copy up to `room` bytes of a frame into `into`, and return the frame's length in bytes. If no frame has
@@ -78,17 +90,18 @@ size_t x_arrived(unsigned number, uint32_t *fate, void *into, size_t room);
 void x_forget(void);
 
 /* From now on, this handler cuts in after each access, request and x_touch that leaves the line asserted, unless it
- * runs or is kept out. With NULL, no handler cuts in. If the line is still asserted when the handler returns, the
- * handler runs again. x_interrupts keeps the handler out, or, if `is_on` is true, lets it in again, and returns whether
- * it was let in before. A handler that is let in while the line is asserted cuts in at once. */
+ * runs or is kept out. By a deviation, it cuts in before an access or request if the line is asserted there (`irq`), or
+ * between two steps of x_settle. By another one, it is late: it cuts in after the next access, even if the line is
+ * lowered by then (`late irq`). With NULL, no handler cuts in. If the line is still asserted when the handler returns,
+ * the handler runs again. x_interrupts keeps the handler out, or, if `is_on` is true, lets it in again, and returns
+ * whether it was let in before. A handler that is let in while the line is asserted, or late, cuts in at once. */
 void x_handler(void (*handler)(void));
 bool x_interrupts(bool is_on);
 
-/* Returns `size` bytes of zeros, which are a part of the test's state. Call x_memory in the test, and not in main. */
+/* Returns `size` bytes of zeros. Call x_memory in the test, and not in main. All calls of a run have at most 1 MiB. */
 void *x_memory(size_t size);
 
-/* Returns whether the test runs now, on its own stack. While the test runs, an allocator of the test's language must
- * return memory from x_memory. */
+/* Returns whether the test runs now, on its own stack, and not the explorer. */
 bool x_inside(void);
 
 #ifdef __cplusplus

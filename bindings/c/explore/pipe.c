@@ -137,12 +137,14 @@ static uint32_t outcome_of(const char *text)
  * of steps of `settle`. */
 uint32_t xi_pipe_request(enum event event, uint32_t kind, const void *frame, size_t count)
 {
+    unsigned arrived = S->arrived.count;
     uint32_t result = 0;
+    bool has_cut_in;
 
     if (event == STEP)
         result = outcome_of(ask("step %s\n", xi_actions[kind]));
     else if (event == SETTLE)
-        result = (uint32_t)strtoull(ask("settle\n"), NULL, 0);
+        result = (uint32_t)strtoull(ask("settle\n"), NULL, 0) + S->arrived.count - arrived;
     else {
         printf(event == ARRIVE ? "arrive " : "offer ");
         print_hex(frame, count);
@@ -150,13 +152,20 @@ uint32_t xi_pipe_request(enum event event, uint32_t kind, const void *frame, siz
     }
     if (event == ARRIVE)
         xi_add_frame(&S->arrived, frame, count, result);
+    S->is_settling = event == SETTLE;
     xi_cut_in();
-    return result;
+    has_cut_in = S->has_cut_in, S->is_settling = S->has_cut_in = false;
+    return result + has_cut_in;
 }
 
 bool xi_pipe_line(void)
 {
     return is_raised;
+}
+
+unsigned xi_pipe_choose(unsigned count)
+{
+    return (unsigned)strtoull(ask("choose %u\n", count), NULL, 0);
 }
 
 int xi_pipe(void)

@@ -44,8 +44,21 @@ static const char *stored(void)
     if (!file)
         xi_die("the schedule can't be stored");
     print_schedule(file);
-    fclose(file);
+    if (ferror(file) | fclose(file))
+        xi_die("the schedule can't be stored");
     return path;
+}
+
+/* Whether `nicbench serve` knows the places and the deviations of the schedule: it has no handlers, and no places but
+ * accesses and requests. */
+static bool is_known_to_server(void)
+{
+    for (unsigned n = 0; n < R.found.count; n++) {
+        int action = R.found.path[n].action;
+        if (R.found.path[n].sub || action == IRQ || action == LATE_IRQ || action == HOLD_STEP)
+            return false;
+    }
+    return true;
 }
 
 /* Prints the schedule that was found, and the commands that play it again. */
@@ -55,7 +68,7 @@ void xi_show(void)
 
     xi_say("\nThe schedule:\n");
     if (!xi_given.json)
-        print_schedule(stdout);
+        print_schedule(xi_out);
     xi_say("\nTo play it again:   ");
     if (!path && R.found.count) {
         xi_say("printf '");
@@ -68,7 +81,7 @@ void xi_show(void)
     }
     xi_say("%s --replay %s\n", xi_command, path ? path : R.found.count ? "/dev/stdin" : "/dev/null");
     xi_say("For each access:    the same with --log\n");
-    if (xi_has_touched)
+    if (xi_has_touched || !is_known_to_server())
         return;
     path = path || R.found.count ? path : "/dev/null";
     xi_say("For its chart:      tools/races --replay %s -- %s --pipe   (after ./nicbench --build%s)\n",
@@ -83,8 +96,9 @@ void xi_confirm_found(void)
 
     if (!xi_given.serve)
         return;
-    lack = xi_has_touched ? "the test calls x_touch"
-                          : xi_confirm(xi_given.serve, R.found.path, R.found.count, fault, sizeof fault);
+    lack = xi_has_touched          ? "the test calls x_touch"
+           : !is_known_to_server() ? "it has no handlers, and no places but accesses and requests"
+                                   : xi_confirm(xi_given.serve, R.found.path, R.found.count, fault, sizeof fault);
     served = lack || strcmp(fault, R.found.fault) ? "false" : "true";
     if (lack)
         xi_say("%s serve can't play it: %s\n", xi_given.serve, lack);
@@ -104,24 +118,24 @@ static const char *truth(int value)
 static void print_count(const char *key, double count)
 {
     if (count < 0)
-        printf("\"%s\": null", key);
+        fprintf(xi_out, "\"%s\": null", key);
     else
-        printf("\"%s\": %.17g", key, count < 1e300 ? count : 1e300);
+        fprintf(xi_out, "\"%s\": %.17g", key, count < 1e300 ? count : 1e300);
 }
 
 static void print_search(void)
 {
-    printf("{\"complete\": %s, \"tried\": [", truth(R.is_complete));
+    fprintf(xi_out, "{\"complete\": %s, \"tried\": [", truth(R.is_complete));
     for (unsigned n = 0; n < R.widths; n++)
-        printf("%s%.17g", n ? ", " : "", R.tried[n]);
-    printf("], \"smallest\": %s, \"holds\": %s, ", truth(R.is_smallest), truth(xi_given.holds));
-    print_count("first", R.first), printf(", ");
+        fprintf(xi_out, "%s%.17g", n ? ", " : "", R.tried[n]);
+    fprintf(xi_out, "], \"smallest\": %s, \"holds\": %s, ", truth(R.is_smallest), truth(xi_given.holds));
+    print_count("first", R.first), fprintf(xi_out, ", ");
     print_count("schedules", R.schedules);
-    printf(", \"states\": %llu, \"depth\": ", (unsigned long long)R.states);
-    printf(xi_given.depth == EVERY ? "\"every\"" : xi_given.depth == DRAWN ? "null" : "%d", xi_given.depth);
+    fprintf(xi_out, ", \"states\": %llu, \"depth\": ", (unsigned long long)R.states);
+    fprintf(xi_out, xi_given.depth == EVERY ? "\"every\"" : xi_given.depth == DRAWN ? "null" : "%d", xi_given.depth);
     if (xi_given.all)
-        printf(", \"failed\": "), xi_print_failed();
-    printf("}");
+        fprintf(xi_out, ", \"failed\": "), xi_print_failed();
+    fprintf(xi_out, "}");
 }
 
 /* With --json, prints the JSON object. Returns the exit status. */
@@ -129,20 +143,20 @@ int xi_finish(const char *result, int status)
 {
     if (!xi_given.json)
         return status;
-    printf("{\"result\": \"%s\", \"seed\": ", result);
-    printf(R.seed ? "%llu" : "null", (unsigned long long)R.seed);
-    printf(", \"fault\": ");
+    fprintf(xi_out, "{\"result\": \"%s\", \"seed\": ", result);
+    fprintf(xi_out, R.seed ? "%llu" : "null", (unsigned long long)R.seed);
+    fprintf(xi_out, ", \"fault\": ");
     if (R.found.fault[0])
-        xi_print_string(stdout, R.found.fault);
+        xi_print_string(xi_out, R.found.fault);
     else
-        printf("null");
-    printf(", \"schedule\": "), xi_print_lines(stdout, R.found.path, R.found.count);
+        fprintf(xi_out, "null");
+    fprintf(xi_out, ", \"schedule\": "), xi_print_lines(xi_out, R.found.path, R.found.count);
     if (xi_pct.events)
-        printf(", \"pct\": {\"depth\": %u, \"actors\": %u, \"events\": %u, \"bound\": %.17g}", xi_pct.depth,
+        fprintf(xi_out, ", \"pct\": {\"depth\": %u, \"actors\": %u, \"events\": %u, \"bound\": %.17g}", xi_pct.depth,
                xi_pct.actors, xi_pct.events, 1 / xi_bound());
-    printf(", \"runs\": %llu, \"search\": ", (unsigned long long)R.runs);
+    fprintf(xi_out, ", \"runs\": %llu, \"search\": ", (unsigned long long)R.runs);
     print_search();
-    printf(", \"served\": %s}\n", served);
-    fflush(stdout);
+    fprintf(xi_out, ", \"served\": %s}\n", served);
+    fflush(xi_out);
     return status;
 }

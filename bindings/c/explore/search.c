@@ -16,16 +16,16 @@
 #define B xi_book
 #define S xi_state
 
-enum { MOST_CHOICES = 1 << 19, FIRST_ROOM = 1 << 14 };
+enum { MOST_CHOICES = 1 << 19, FIRST_ROOM = 1 << 14, ENDS_APART = 16 };
 /* The actor of each action. Before one access, deviations of different actors can be exchanged, so they are tried only
  * in the order of their actors. */
-static const int actors[ACTIONS] = { 2, 2, 3, 3, -1, -1, 2, 3, 0, 1, 3 };
+static const int actors[ACTIONS] = { 2, 2, 3, 3, -1, -1, 2, 3, 0, 1, 3, 4, 4, 4, 4 };
 
 /* What belongs to a choice of the path: its state, its options but the default, and how many schedules below it pass,
  * by numbers of deviations. */
 struct extra {
     struct saved saved;
-    int actions[MOST_OPTIONS];
+    uint8_t actions[MOST_OPTIONS]; /* an answer to x_choose is CHOICE and this answer, less 1 */
     double counts[DEEPEST + 1];
 };
 
@@ -33,6 +33,10 @@ static struct schedule_search search;
 static struct schedule_choice path[MOST_CHOICES];
 static struct extra extras[MOST_CHOICES];
 static bool is_every, has_holds, goes_on;
+static uint64_t ends, next_end; /* of runs, so far; of them, the next that is played again from nothing */
+static unsigned used_before;    /* what dead.c knew when the search began */
+static bool all_before;
+uint64_t xi_repeated;
 static double failing[DEEPEST + 1]; /* schedules that fail, by their numbers of deviations */
 static struct schedule_known *table;
 static double *table_counts; /* for each entry of the table, the numbers of schedules below it */
@@ -106,26 +110,50 @@ static struct schedule_key key_here(void)
 
 static bool is_after(int last, int action)
 {
-    if (last == HOLD_EEPROM || last == HOLD_PHY)
+    bool is_fast = last == NIC_EEPROM || last == NIC_PHY || action == NIC_EEPROM || action == NIC_PHY;
+
+    if (last == HOLD_EEPROM || last == HOLD_PHY || is_fast)
         return true;
     return actors[last] <= actors[action] && !(last == NIC_TXTAKE && action == NIC_TXPUT) &&
            !(last == NIC_RXDATA && action == NIC_RXDONE);
 }
 
-/* The deviations that would do something here, and that are tried after the last one at this place. Returns their
- * number. */
-static int options_here(int *actions)
+/* Whether a deviation would do something here */
+static bool is_possible(int action)
 {
-    static const int tried[] = { NIC_TXTAKE, NIC_TXPUT, NIC_RXDATA, NIC_RXDONE, ARRIVAL, TX, RX };
     unsigned possible = xi_possible();
+
+    if (action == IRQ)
+        return xi_may_cut_in();
+    if (action == LATE_IRQ)
+        return B->event == CALL;
+    if (B->event == CALL || B->event == PAUSE)
+        return false;
+    if (action == HOLD_STEP)
+        return has_holds && B->event == STEP && B->address <= NIC_PHY && possible >> B->address & 1;
+    if (action == ARRIVAL)
+        return S->offered < S->offers.count;
+    if ((action == NIC_EEPROM || action == NIC_PHY) && !has_holds)
+        return false;
+    return possible >> (action == TX ? NIC_TXTAKE : action == RX ? NIC_RXDATA : action) & 1;
+}
+
+/* The deviations that would do something here, and that are tried after the last one at this place. After an interrupt
+ * and an answer, none is tried. Returns their number. */
+static int options_here(uint8_t *actions)
+{
+    static const int tried[] = { NIC_EEPROM, NIC_PHY, NIC_TXTAKE, NIC_TXPUT, NIC_RXDATA, NIC_RXDONE, ARRIVAL, TX, RX, IRQ,
+                                 LATE_IRQ, HOLD_STEP };
     int count = 0;
 
     for (size_t n = 0; n < sizeof tried / sizeof *tried; n++) {
-        int action = tried[n], first = action == TX ? NIC_TXTAKE : action == RX ? NIC_RXDATA : action;
-        bool can = action == ARRIVAL ? S->offered < S->offers.count : possible >> first & 1;
-        if (can && (is_every ? action < TX || action == ARRIVAL : !B->last || is_after(B->last - 1, action)))
-            actions[count++] = action;
+        int action = tried[n];
+        bool is_tried = is_every ? action != TX && action != RX : !B->last || is_after(B->last - 1, action);
+        if (is_tried && is_possible(action))
+            actions[count++] = (uint8_t)action;
     }
+    for (unsigned answer = 1; B->event == CHOOSE && answer < S->choices; answer++)
+        actions[count++] = (uint8_t)(CHOICE + answer - 1);
     return count;
 }
 
@@ -136,14 +164,14 @@ static void go_on(void)
 }
 
 /* Goes on up to the next choice. Returns the number of its options without the default; 0 at the end of the run. */
-static int next_choice(int *actions)
+static int next_choice(uint8_t *actions)
 {
     for (;;) {
         if (B->event == ENDED)
             return 0;
         for (; B->stage < STAGES; B->stage++)
             if (has_holds && xi_possible() >> (NIC_EEPROM + B->stage) & 1) {
-                actions[0] = HOLD_EEPROM + B->stage;
+                actions[0] = (uint8_t)(HOLD_EEPROM + B->stage);
                 return 1;
             } else if (xi_possible() >> (NIC_EEPROM + B->stage) & 1)
                 xi_play((uint32_t)(NIC_EEPROM + B->stage));
@@ -165,6 +193,10 @@ static void take(int action)
         B->stage++;
     } else if (action == DEFAULT)
         go_on();
+    else if (action >= CHOICE)
+        xi_choose((unsigned)(action - CHOICE + 1)), go_on();
+    else if (action == IRQ || action == LATE_IRQ || action == HOLD_STEP)
+        xi_deviate(action), go_on();
     else
         xi_deviate(action);
 }
@@ -175,13 +207,13 @@ static void take(int action)
 static void take_newest(void)
 {
     const struct schedule_choice *newest = &path[search.count - 1];
-    const int *actions = extras[search.count - 1].actions;
+    const uint8_t *actions = extras[search.count - 1].actions;
 
     take(newest->taken == newest->place.possible ? DEFAULT : actions[newest->taken]);
 }
 
 /* Begins the newest choice of the path. If the choice has options that are tried later, saves its state. */
-static void begin_newest(const int *actions)
+static void begin_newest(const uint8_t *actions)
 {
     struct extra *extra = &extras[search.count - 1];
 
@@ -204,15 +236,38 @@ static bool fail(struct found *found, double *counts)
     return goes_on;
 }
 
+/* Plays the end of a run of the search again from nothing: the first ends, and then ever fewer of them, spread over the
+ * search. Returns whether both runs have the same answers and the same result. A run that has read what was cleared
+ * isn't compared: the search begins again. */
+static bool is_end_repeated(struct found *found)
+{
+    struct outcome here, fresh;
+
+    if (++ends < next_end || !xi_saves || used_before != xi_dead_used || all_before != xi_reads_dead || xi_stopped())
+        return true;
+    next_end = ends + 1 + ends / ENDS_APART;
+    here = xi_outcome(), fresh = xi_fresh_play(B->path, B->path_count);
+    xi_repeated++;
+    if (here.history == fresh.history || xi_stopped())
+        return true;
+    xi_keep(found);
+    found->fails = false, found->differs = true;
+    memcpy(found->fault, here.fault, sizeof here.fault), memcpy(found->fresh, fresh.fault, sizeof fresh.fault);
+    return false;
+}
+
 /* Plays the run on to its end, or to a known state. `counts` gets the numbers of schedules that begin as this run and
  * pass. Returns false if the run fails and the search ends. */
 static bool forward(struct found *found, double *counts)
 {
     for (;;) {
-        int actions[MOST_OPTIONS], count = next_choice(actions);
+        uint8_t actions[MOST_OPTIONS];
+        int count = next_choice(actions);
         struct schedule_place place = { { 0, 0 }, (uint32_t)count };
         uint32_t met;
         if (count == 0) {
+            if (!is_end_repeated(found))
+                return false;
             memset(counts, 0, width() * sizeof *counts), counts[0] = 1;
             return !S->fault || fail(found, counts);
         }
@@ -236,7 +291,7 @@ static bool forward(struct found *found, double *counts)
 static void return_to_newest(void)
 {
     size_t count = search.count;
-    int actions[MOST_OPTIONS];
+    uint8_t actions[MOST_OPTIONS];
 
     if (xi_saves) {
         xi_restore(&extras[count - 1].saved);
@@ -347,11 +402,14 @@ static void search_all(int depth, size_t most_states, struct found *found)
     double counts[DEEPEST + 1] = { 0 };
 
     memset(found, 0, offsetof(struct found, path)), memset(failing, 0, sizeof failing);
+    used_before = xi_dead_used, all_before = xi_reads_dead, ends = next_end = 0;
     begin(depth);
     xi_begin(false);
     xi_next_place();
     while (forward(found, counts) && known_count + search.count <= most_states && !xi_stopped()) {
         show_progress(depth);
+        if (used_before != xi_dead_used || all_before != xi_reads_dead)
+            break;
         if (!backward(counts)) {
             found->is_complete = true;
             break;
@@ -367,17 +425,14 @@ static void search_all(int depth, size_t most_states, struct found *found)
 
 /* Tries all schedules of up to this number of deviations, or EVERY schedule, up to one that fails. Ends if there are
  * more states than `most_states`. With `finds_all`, goes on after one that fails. If a run has read what dead.c has
- * cleared, begins again, and clears nothing. */
+ * cleared, begins again, and doesn't clear this. */
 void xi_explore(int depth, bool with_holds, bool finds_all, size_t most_states, struct found *found)
 {
-    bool kept;
-
     is_every = depth == EVERY, has_holds = with_holds, goes_on = finds_all;
     xi_reads_dead |= finds_all;
     xi_searches = xi_saves;
-    do {
-        kept = xi_reads_dead;
+    do
         search_all(depth, most_states, found);
-    } while (kept != xi_reads_dead && !xi_stopped());
+    while ((used_before != xi_dead_used || all_before != xi_reads_dead) && !xi_stopped());
     xi_searches = false;
 }

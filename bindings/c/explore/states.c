@@ -1,15 +1,14 @@
 /* The memory of a run, its copies and its digests.
  *
- * All that a run changes is on the stack of the test, or in an arena at a fixed address. The arena has what the
- * explorer knows of the run, what the test keeps, and the heap of libnic82540em, whose three functions are here. After
- * xi_track, the arena's pages are protected. The first write to a page is a fault, whose handler notes the page and
- * allows writes to it. So a saved state is the pages that any run has changed, and the used part of the stack of the
+ * All that a run changes is on the stack of the test, in the program's memory (memory.c), or in an arena at a fixed
+ * address. The arena has what the explorer knows of the run, what the test keeps, and the heap of libnic82540em, whose
+ * three functions are here. A saved state is the pages that any run has changed, and the used part of the stack of the
  * test.
  */
 #define _GNU_SOURCE
 #include "inside.h"
+#include <errno.h>
 #include <signal.h>
-#include <stdio.h>
 #include <stdlib.h>
 #include <string.h>
 #include <sys/mman.h>
@@ -20,62 +19,68 @@
 #include <sys/auxv.h>
 #endif
 
-#define ARENA ((char *)0x200000000000)
 enum {
     BOOK_PAGES = (sizeof(struct book) + PAGE - 1) / PAGE, STATE_PAGES = (sizeof(struct state) + PAGE - 1) / PAGE,
-    MEMORY_PAGES = 256, HEAP_PAGES = 8192, PAGES = BOOK_PAGES + STATE_PAGES + MEMORY_PAGES + HEAP_PAGES,
-    MOST_OWN = 4096, BLOCK = 64
+    MEMORY_PAGES = 256, HEAP_PAGES = 8192, PAGES = BOOK_PAGES + STATE_PAGES + MEMORY_PAGES + HEAP_PAGES, BLOCK = 64,
+    HANDLER_STACK = 1 << 16
 };
+#define ARENA ((char *)XI_BEGIN)
 #define MEMORY (ARENA + (BOOK_PAGES + STATE_PAGES) * (size_t)PAGE)
 #define HEAP (MEMORY + MEMORY_PAGES * (size_t)PAGE)
 
-struct book *const xi_book = (struct book *)ARENA;
-struct state *const xi_state = (struct state *)(ARENA + BOOK_PAGES * (size_t)PAGE);
+struct book *const xi_book = (struct book *)XI_BEGIN;
+struct state *const xi_state = (struct state *)(XI_BEGIN + BOOK_PAGES * (uintptr_t)PAGE);
 bool xi_saves;
-static char *base;                  /* the arena when its pages were protected */
-static int own[MOST_OWN], own_count; /* the pages that some run has written since */
-static char is_own[PAGES];
-static struct digest base_digest[PAGES];
 static bool is_tracked;
 static char *host, *host_end;    /* the host's memory */
 static char wire[64 * LONGEST];  /* the frames on the wire: none at an access or a request, so it isn't saved */
 
-_Noreturn void xi_die(const char *why)
+/* Ends the run of the test, which fails. */
+_Noreturn void xi_fail(const char *fault)
 {
-    fprintf(stderr, "explore: %s\n", why);
-    exit(NOT_RUN);
+    xi_state->fault = fault;
+    xi_book->event = ENDED;
+    xi_to_explorer();
+    __builtin_trap();
 }
 
-/* Returns whether this is the first write to a page of the arena. The page can be written from now on. */
-static bool is_first_write(const char *at)
+/* What a signal of the test means. Above the end of the test's stack, nothing is mapped. */
+static const char *name_of(int number, uintptr_t address)
 {
-    size_t page = (size_t)(at - ARENA) / PAGE;
-
-    if (!is_tracked || at < ARENA || page >= PAGES || is_own[page] || own_count == MOST_OWN)
-        return false;
-    is_own[page] = 1, own[own_count++] = (int)page;
-    return mprotect(ARENA + page * PAGE, PAGE, PROT_READ | PROT_WRITE) == 0;
+    if (number == SIGSEGV && address < XI_STACK && address >= XI_STACK - XI_STACK_GAP)
+        return "ended by SIGSEGV: its stack has more than 1 MiB";
+    switch (number) {
+    case SIGABRT:
+        return "ended by SIGABRT";
+    case SIGFPE:
+        return "ended by SIGFPE";
+    case SIGILL:
+        return "ended by SIGILL";
+    case SIGBUS:
+        return "ended by SIGBUS";
+    default:
+        return "ended by SIGSEGV";
+    }
 }
 
 static void on_signal(int number, siginfo_t *info, void *context)
 {
+    char before = xi_pause();
+
     (void)context;
-    if (number == SIGSEGV && is_first_write(info->si_addr))
-        return;
-    if (!x_inside()) {
-        signal(number, SIG_DFL);
+    if (number == SIGSEGV && xi_is_first_write(info->si_addr)) {
+        xi_resume(before);
         return;
     }
-    xi_state->fault = number == SIGSEGV ? "ended by SIGSEGV" : "ended by SIGABRT";
-    if (number == SIGFPE)
-        xi_state->fault = "ended by SIGFPE";
-    xi_book->event = ENDED;
-    xi_to_explorer();
+    if (xi_is_test() && number != SIGSEGV ? !xi_is_elsewhere(number) : xi_is_test())
+        xi_fail(name_of(number, (uintptr_t)info->si_addr));
+    signal(number, SIG_DFL);
 }
 
 void xi_prepare(bool may_save)
 {
-    struct sigaction action = { .sa_sigaction = on_signal, .sa_flags = SA_SIGINFO | SA_NODEFER };
+    static const int numbers[] = { SIGSEGV, SIGABRT, SIGFPE, SIGILL, SIGBUS };
+    static char stack[HANDLER_STACK];
     int kind = PROT_READ | PROT_WRITE, flags = MAP_PRIVATE | MAP_ANONYMOUS | MAP_NORESERVE | MAP_FIXED_NOREPLACE;
     static bool is_prepared;
 
@@ -84,9 +89,11 @@ void xi_prepare(bool may_save)
         return;
     is_prepared = true;
     if (mmap(ARENA, PAGES * (size_t)PAGE, kind, flags, -1, 0) != ARENA)
-        xi_die("the memory at 0x200000000000 isn't free");
-    sigemptyset(&action.sa_mask);
-    sigaction(SIGSEGV, &action, NULL), sigaction(SIGABRT, &action, NULL), sigaction(SIGFPE, &action, NULL);
+        xi_die(errno == ENOMEM ? "memory is refused" : "the memory at 0x200000000000 isn't free");
+    sigaltstack(&(stack_t){ .ss_sp = stack, .ss_size = sizeof stack }, NULL);
+    for (size_t n = 0; n < sizeof numbers / sizeof *numbers; n++)
+        xi_on(numbers[n], on_signal, SA_NODEFER | SA_ONSTACK);
+    xi_block_calls();
 }
 
 /* Sets the arena to zeros, as it is before a run, but for the heap and the path. */
@@ -100,33 +107,19 @@ void xi_clear(void)
 /* From now on, notes which pages are changed, if states are saved. */
 void xi_track(void)
 {
-    size_t size = PAGES * (size_t)PAGE;
     void *first = NULL;
 
     if (!xi_saves || is_tracked)
         return;
     host_end = (char *)(uintptr_t)nic82540em_memory(&xi_state->nic, &first);
     host = first, host_end = host + (uintptr_t)host_end;
-    base = mmap(NULL, size, PROT_READ | PROT_WRITE, MAP_PRIVATE | MAP_ANONYMOUS | MAP_NORESERVE, -1, 0);
-    if (base == MAP_FAILED)
-        xi_die("memory is refused");
-    memcpy(base, ARENA, BOOK_PAGES * (size_t)PAGE);
-    memcpy(base + ((char *)xi_state - ARENA), xi_state, STATE_PAGES * (size_t)PAGE);
-    memcpy(base + (HEAP - ARENA), HEAP, (xi_state->heap_used + PAGE - 1) / PAGE * PAGE);
     is_tracked = true;
-    mprotect(ARENA, size, PROT_READ);
-}
-
-/* Restores the arena as it was at xi_track. */
-void xi_to_base(void)
-{
-    for (int n = 0; n < own_count; n++)
-        memcpy(ARENA + own[n] * (size_t)PAGE, base + own[n] * (size_t)PAGE, PAGE);
+    xi_watch(ARENA, ARENA + PAGES * (size_t)PAGE);
 }
 
 int xi_pages(void)
 {
-    return own_count;
+    return xi_own_count;
 }
 
 /* The heap of the library. The heap only grows, except that the newest block can be freed. */
@@ -170,7 +163,7 @@ void *x_memory(size_t size)
     size_t at = (xi_state->memory_used + 63) & ~(size_t)63;
 
     if (size > MEMORY_PAGES * (size_t)PAGE - at)
-        xi_die("x_memory: the test has asked for more than 1 MiB");
+        xi_end("x_memory: the test has asked for more than 1 MiB");
     xi_state->memory_used = at + size;
     return MEMORY + at;
 }
@@ -268,26 +261,41 @@ static struct digest digest_of(const char *at, size_t blocks, uint64_t seed)
     return portable(at, blocks, seed);
 }
 
-/* The digest of a page as it was at xi_track */
-static struct digest digest_of_base(int page)
+/* The digest of the bytes of a page, or of a part of one */
+static struct digest digest_of_bytes(const char *at, const struct own *one)
 {
-    if (base_digest[page].one == 0)
-        base_digest[page] = digest_of(base + page * (size_t)PAGE, PAGE / BLOCK, (uint64_t)page);
-    return base_digest[page];
+    char padded[PAGE];
+
+    if (one->size == PAGE)
+        return digest_of(at, PAGE / BLOCK, (uintptr_t)one->at);
+    memcpy(padded, at, one->size);
+    memset(padded + one->size, 0, PAGE - one->size);
+    return digest_of(padded, (one->size + BLOCK - 1) / BLOCK, (uintptr_t)one->at);
 }
 
 /* Whether the bytes of a page are a part of the digest. Those of the book aren't, and of the library's heap, only those
  * of the host's memory are. The adapter's own digest stands for the others of the heap. */
-static bool is_compared(int page)
+static bool is_compared(const struct own *one)
 {
-    char *at = ARENA + page * (size_t)PAGE;
-
-    return page >= BOOK_PAGES && (at < HEAP || (at >= host && at < host_end));
+    return one->at < ARENA || one->at >= HEAP + HEAP_PAGES * (size_t)PAGE || (one->at >= (char *)xi_state && one->at < HEAP) ||
+           (one->at >= host && one->at < host_end);
 }
 
-/* The digest of the state: of the stack of the test, of the adapter by its contents, and of each compared page. A page
- * counts as the difference from its digest at xi_track. Bytes below the top of the stack in the same block are cleared,
- * since they aren't used any more. */
+/* Adds the difference of a page from what it was before the first run. */
+static void add_page(struct digest *sum, struct own *one)
+{
+    struct digest now;
+
+    if (!is_compared(one))
+        return;
+    if (!one->digest.one)
+        one->digest = digest_of_bytes(one->base, one);
+    now = digest_of_bytes(one->at, one);
+    sum->one += now.one - one->digest.one, sum->two += now.two - one->digest.two;
+}
+
+/* The digest of the state: of the stack of the test, of the adapter by its contents, and of each compared page. Bytes
+ * below the top of the stack in the same block are cleared, since they aren't used any more. */
 struct digest xi_digest(void)
 {
     void *top;
@@ -295,45 +303,58 @@ struct digest xi_digest(void)
     struct digest sum, adapter;
 
     xi_clear_dead();
+    xi_find_written();
     adapter = xi_adapter();
     memset(from, 0, (size_t)((char *)top - from));
     sum = digest_of(from, (size_t)(end - from) / BLOCK, (uintptr_t)top);
     sum.one += adapter.one, sum.two += adapter.two;
-    for (int n = 0; n < own_count; n++)
-        if (is_compared(own[n])) {
-            struct digest now = digest_of(ARENA + own[n] * (size_t)PAGE, PAGE / BLOCK, (uint64_t)own[n]);
-            struct digest before = digest_of_base(own[n]);
-            sum.one += now.one - before.one, sum.two += now.two - before.two;
-        }
+    for (int n = 0; n < xi_own_count; n++)
+        add_page(&sum, &xi_own[n]);
     return sum;
+}
+
+/* Copies a page, or a part of one. Returns the number of its bytes. */
+static size_t copy(char *to, const char *from, const struct own *one)
+{
+    if (one->size == PAGE)
+        memcpy(to, from, PAGE);
+    else
+        memcpy(to, from, one->size);
+    return one->size;
 }
 
 void xi_save(struct saved *saved)
 {
     void *top;
-    char *end = xi_stack(&top);
-    size_t stack = (size_t)(end - (char *)top), need = own_count * (size_t)PAGE + stack;
+    char *end = xi_stack(&top), *into;
+    size_t stack = (size_t)(end - (char *)top), need;
 
+    xi_find_written();
+    need = (size_t)xi_own_count * PAGE + stack;
     if (saved->room < need) {
         free(saved->bytes);
         saved->bytes = malloc(saved->room = need + 8 * (size_t)PAGE);
         if (!saved->bytes)
             xi_die("memory is refused");
     }
-    for (int n = 0; n < own_count; n++)
-        memcpy(saved->bytes + n * (size_t)PAGE, ARENA + own[n] * (size_t)PAGE, PAGE);
-    memcpy(saved->bytes + own_count * (size_t)PAGE, top, stack);
-    saved->pages = own_count, saved->top = top;
+    into = saved->bytes;
+    for (int n = 0; n < xi_own_count; n++)
+        into += copy(into, xi_own[n].at, &xi_own[n]);
+    memcpy(into, top, stack);
+    saved->pages = xi_own_count, saved->top = top;
 }
 
 void xi_restore(const struct saved *saved)
 {
-    char *end = xi_stack(NULL);
+    char *end = xi_stack(NULL), *from = saved->bytes;
 
-    for (int n = 0; n < own_count; n++) {
-        const char *from = n < saved->pages ? saved->bytes + n * (size_t)PAGE : base + own[n] * (size_t)PAGE;
-        memcpy(ARENA + own[n] * (size_t)PAGE, from, PAGE);
-    }
+    xi_begin_time();
+    xi_find_written();
+    for (int n = 0; n < xi_own_count; n++)
+        if (n < saved->pages)
+            from += copy(xi_own[n].at, from, &xi_own[n]);
+        else
+            copy(xi_own[n].at, xi_own[n].base, &xi_own[n]);
     xi_set_stack(saved->top);
-    memcpy(saved->top, saved->bytes + saved->pages * (size_t)PAGE, (size_t)(end - (char *)saved->top));
+    memcpy(saved->top, from, (size_t)(end - (char *)saved->top));
 }

@@ -11,11 +11,13 @@
 #include <ucontext.h>
 
 enum { STACK_SIZE = 1 << 20, DEEPEST_CALLS = 1 << 15, LOOKS = 64 };
-#define STACK ((char *)0x201000000000)
+#define STACK ((char *)XI_STACK)
 
 static bool is_test; /* whether the test runs now */
+volatile unsigned xi_entries;
 static void (*begins_with)(void);
 static void *test_top;
+static size_t depth; /* how far calls go below the top of the stack, and a quarter more */
 
 /* The end of the stack of the test, which is made by the first call */
 static char *end_of_stack(void)
@@ -31,7 +33,8 @@ static char *end_of_stack(void)
     return end;
 }
 
-bool x_inside(void)
+/* Whether the stack of the test is used: by the test, or by the explorer for it */
+bool xi_is_test(void)
 {
     return is_test;
 }
@@ -63,7 +66,6 @@ static size_t depth_of_calls(size_t most)
  * calls of this function measures how far they go. */
 void xi_clear_stack(void)
 {
-    static size_t depth;
     static unsigned turn;
     size_t most = (size_t)((char *)test_top - STACK), seen;
 
@@ -77,16 +79,37 @@ void xi_clear_stack(void)
     memset((char *)test_top - (depth < most ? depth : most), 0, depth < most ? depth : most);
 }
 
+/* Clears what calls have left below this function's frame, on the stack of the test. */
+__attribute__((noinline)) void xi_clear_below(void)
+{
+#ifdef __x86_64__
+    uint64_t words = depth / 8, zero = 0;
+    char *at;
+
+    __asm__ volatile("mov %%rsp, %0\n sub %3, %0\n rep stosq" : "=&D"(at), "+c"(words), "+a"(zero) : "r"(depth & ~(size_t)7) : "memory");
+#elif defined(__aarch64__)
+    uint64_t at, size = depth & ~(size_t)15;
+
+    __asm__ volatile("mov %0, sp\n sub %0, %0, %1\n 1: cbz %1, 2f\n stp xzr, xzr, [%0], #16\n sub %1, %1, #16\n b 1b\n 2:"
+                     : "=&r"(at), "+r"(size) : : "memory");
+#endif
+}
+
 #if defined(__x86_64__) || defined(__aarch64__)
 static void *explorer_top;
 void xi_switch(void **from, void *to);
 #ifdef __x86_64__
-enum { FRAME = 8, RETURN = 6 }; /* words that xi_switch pushes, and which of them is the address to go on at */
+/* Words that xi_switch pushes, and which of them is the address to go on at. The first word has the modes of floating
+ * point: MXCSR, and the control word of the x87. */
+enum { FRAME = 9, RETURN = 7 };
+#define MODES 0x037F00001F80
 __asm__(".text\n.type xi_switch, @function\nxi_switch:\n push %rbp\n push %rbx\n push %r12\n push %r13\n push %r14\n"
-        " push %r15\n mov %rsp,(%rdi)\n mov %rsi,%rsp\n pop %r15\n pop %r14\n pop %r13\n pop %r12\n pop %rbx\n"
+        " push %r15\n sub $8,%rsp\n stmxcsr (%rsp)\n fnstcw 4(%rsp)\n mov %rsp,(%rdi)\n mov %rsi,%rsp\n"
+        " ldmxcsr (%rsp)\n fldcw 4(%rsp)\n add $8,%rsp\n pop %r15\n pop %r14\n pop %r13\n pop %r12\n pop %rbx\n"
         " pop %rbp\n pop %rcx\n jmp *%rcx\n.size xi_switch, .-xi_switch\n");
 #else
 enum { FRAME = 20, RETURN = 1 };
+#define MODES 0
 __asm__(".text\n.type xi_switch, %function\nxi_switch:\n stp x29, x30, [sp, #-160]!\n stp x19, x20, [sp, #16]\n"
         " stp x21, x22, [sp, #32]\n stp x23, x24, [sp, #48]\n stp x25, x26, [sp, #64]\n stp x27, x28, [sp, #80]\n"
         " stp d8, d9, [sp, #96]\n stp d10, d11, [sp, #112]\n stp d12, d13, [sp, #128]\n stp d14, d15, [sp, #144]\n"
@@ -108,15 +131,15 @@ void xi_start(void (*function)(void))
 
     begins_with = function;
     memset(top, 0, FRAME * sizeof *top + 64);
-    top[RETURN] = (uint64_t)(uintptr_t)first;
+    top[RETURN] = (uint64_t)(uintptr_t)first, top[0] = MODES;
     test_top = top;
 }
 
 void xi_to_test(void)
 {
-    is_test = true;
+    is_test = true, xi_entries++, xi_at_test(true);
     xi_switch(&explorer_top, test_top);
-    is_test = false;
+    is_test = false, xi_at_test(false);
 }
 
 void xi_to_explorer(void)
@@ -137,9 +160,9 @@ void xi_start(void (*function)(void))
 
 void xi_to_test(void)
 {
-    is_test = true;
+    is_test = true, xi_entries++, xi_at_test(true);
     swapcontext(&explorer_context, &test_context);
-    is_test = false;
+    is_test = false, xi_at_test(false);
 }
 
 void xi_to_explorer(void)

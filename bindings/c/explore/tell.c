@@ -1,16 +1,21 @@
 /* What is printed: text or JSON, and what a search has done so far on a terminal; and the signals that end a search. */
 #define _GNU_SOURCE
 #include "inside.h"
-#include <signal.h>
 #include <stdarg.h>
 #include <stdio.h>
+#include <stdlib.h>
 #include <string.h>
+#include <sys/time.h>
 #include <time.h>
 #include <unistd.h>
 
-enum { PATIENCE = 1, QUIET = 5 }; /* seconds */
+enum { PATIENCE = 1, QUIET = 5, SHORTER = 2 }; /* seconds */
 static volatile sig_atomic_t stopped;
 static struct timespec stopped_at;
+static volatile unsigned run_seconds; /* of this run */
+static bool is_late; /* whether a run has taken too long */
+static char late[64];
+FILE *xi_out, *xi_errors;
 static bool has_progress; /* whether a line of progress is on the terminal */
 
 static double seconds_since(const struct timespec *then)
@@ -21,16 +26,23 @@ static double seconds_since(const struct timespec *then)
     return (double)(now.tv_sec - then->tv_sec) + (double)(now.tv_nsec - then->tv_nsec) / 1e9;
 }
 
-/* Signals */
+/* Signals, and the time of a run */
 
 /* The first signal ends the search. A signal that comes more than a second after the first one ends the program. */
-static void on_signal(int number)
+static void on_stop(int number, siginfo_t *info, void *context)
 {
+    char before;
+
+    (void)info, (void)context;
+    if (xi_is_elsewhere(number))
+        return;
+    before = xi_pause();
     if (!stopped)
         clock_gettime(CLOCK_MONOTONIC, &stopped_at);
     else if (seconds_since(&stopped_at) > PATIENCE)
         _exit(128 + number);
     stopped = number;
+    xi_resume(before);
 }
 
 void xi_listen(void)
@@ -38,8 +50,59 @@ void xi_listen(void)
     static const int numbers[] = { SIGINT, SIGTERM, SIGHUP };
 
     for (size_t n = 0; n < sizeof numbers / sizeof *numbers; n++)
-        if (signal(numbers[n], on_signal) == SIG_IGN)
-            signal(numbers[n], SIG_IGN);
+        if (signal(numbers[n], SIG_IGN) != SIG_IGN)
+            xi_on(numbers[n], on_stop, SA_RESTART);
+}
+
+/* Each second: ends the run of a test that runs for too long, or that comes to no access when a signal has ended the
+ * search. */
+static void on_second(int number, siginfo_t *info, void *context)
+{
+    static unsigned last;
+    char before;
+    bool is_stuck;
+
+    (void)info, (void)context;
+    if (xi_is_elsewhere(number))
+        return;
+    before = xi_pause(), is_stuck = xi_is_test() && last == xi_entries;
+    last = xi_entries, run_seconds++;
+    if (xi_is_test() && run_seconds > (is_late ? (unsigned)SHORTER : xi_given.seconds)) {
+        is_late = !xi_is_fresh;
+        snprintf(late, sizeof late, "it doesn't end in %u second%s", xi_given.seconds, xi_given.seconds == 1 ? "" : "s");
+        xi_fail(late);
+    }
+    if (is_stuck && stopped) {
+        snprintf(late, sizeof late, "it doesn't end before SIG%s", sigabbrev_np(stopped));
+        xi_fail(late);
+    }
+    xi_resume(before);
+}
+
+/* From now on, a run may take the seconds of --seconds. When one has taken longer, later ones may take two seconds: the
+ * schedule that is printed at the end is played again in all its time. */
+void xi_limit_time(void)
+{
+    struct itimerval each = { { 1, 0 }, { 1, 0 } };
+
+    xi_on(SIGALRM, on_second, SA_RESTART | SA_NODEFER);
+    setitimer(ITIMER_REAL, &each, NULL);
+}
+
+void xi_end_time(void)
+{
+    setitimer(ITIMER_REAL, &(struct itimerval){ { 0, 0 }, { 0, 0 } }, NULL);
+}
+
+void xi_begin_time(void)
+{
+    run_seconds = 0;
+}
+
+/* Whether some run of this process was ended, because it took too long */
+bool xi_is_late(void)
+{
+    return late[0];
 }
 
 /* The number of the signal that has asked for an end, or 0 */
@@ -62,6 +125,32 @@ const char *xi_why(void)
 
 /* Text */
 
+/* Opens the streams of the explorer. Unless they are shared with the test, they are streams of its own: those of the C
+ * library are a part of the test's state. */
+void xi_open(bool shares)
+{
+    xi_out = shares ? NULL : fdopen(STDOUT_FILENO, "w"), xi_errors = shares ? NULL : fdopen(STDERR_FILENO, "w");
+    xi_out = xi_out ? xi_out : stdout, xi_errors = xi_errors ? xi_errors : stderr;
+    setvbuf(xi_errors, NULL, _IONBF, 0);
+}
+
+/* Ends the program, because the explorer can't go on. */
+_Noreturn void xi_die(const char *why)
+{
+    xi_pause();
+    fprintf(xi_errors ? xi_errors : stderr, "explore: %s\n", why);
+    exit(NOT_RUN);
+}
+
+/* Ends the program, because the test, or this thing, has state that can't be saved. */
+_Noreturn void xi_die_of(const char *what, const char *name)
+{
+    xi_pause();
+    fprintf(xi_errors ? xi_errors : stderr, "explore: %s%s%s: it can't be saved with the state of the test\n", what,
+            name && *name ? ": " : "", name ? name : "");
+    exit(NOT_RUN);
+}
+
 void xi_say(const char *format, ...)
 {
     va_list words;
@@ -69,12 +158,12 @@ void xi_say(const char *format, ...)
     if (xi_given.json)
         return;
     if (has_progress)
-        fputs("\r\033[K", stderr);
+        fputs("\r\033[K", xi_errors);
     has_progress = false;
     va_start(words, format);
-    vprintf(format, words);
+    vfprintf(xi_out, format, words);
     va_end(words);
-    fflush(stdout);
+    fflush(xi_out);
 }
 
 /* Whether it is time for a line of progress: standard error is a terminal, and five seconds have passed since the last
@@ -99,7 +188,7 @@ void xi_progress(const char *format, ...)
     va_list words;
 
     va_start(words, format);
-    fputc('\r', stderr), vfprintf(stderr, format, words), fputs("\033[K\r", stderr);
+    fputc('\r', xi_errors), vfprintf(xi_errors, format, words), fputs("\033[K\r", xi_errors);
     va_end(words);
     has_progress = true;
 }

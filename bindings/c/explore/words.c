@@ -16,8 +16,10 @@ static const char help[] =
     "  --pct N              draws by priorities (PCT): the actor with the highest one goes first. At up to N - 1\n"
     "                       random events, the actor of the event gets one below all first ones\n"
     "  --all                goes on after a schedule that fails, and prints all that fail, with --explore N by kinds\n"
-    "  --holds              also leaves out steps of the EEPROM and the PHY\n"
+    "  --holds              also leaves out steps of the EEPROM, the PHY and x_step, and plays early ones of the\n"
+    "                       EEPROM and the PHY\n"
     "  --states N           ends a search that has more states (default 20000000)\n"
+    "  --seconds N          a run that doesn't end in N seconds fails (default 60)\n"
     "  --replay FILE        plays one schedule; with --log, prints each access and each step\n"
     "  --serve PROGRAM      also plays the schedule that is printed, or that of --replay, by PROGRAM serve: its\n"
     "                       player of schedules is proved\n"
@@ -30,10 +32,11 @@ static const char help[] =
     "\n"
     "Without options, NIC_EXPLORE (N, every or draw:N), NIC_REPLAY, NIC_OUT and NIC_SERVE are used. Words before\n"
     "the first option belong to the test. Exit status: 0 if no schedule fails, 1 if one fails, 2 if a word or a\n"
-    "schedule is invalid, 3 if the search can't go on, 4 if nothing was searched. If a signal ends the search, 128 and\n"
-    "its number: 130 after Ctrl-C, 143 after SIGTERM.\n";
+    "schedule is invalid, 3 if the search can't go on, 4 if nothing was searched, 5 if a run of the search isn't as its\n"
+    "schedule played from nothing. If a signal ends the search, 128 and its number: 130 after Ctrl-C, 143 after\n"
+    "SIGTERM.\n";
 
-struct given xi_given = { .depth = DRAWN, .runs = 1000, .seed = 1, .states = 20000000 };
+struct given xi_given = { .depth = DRAWN, .runs = 1000, .seed = 1, .states = 20000000, .seconds = 60 };
 char xi_command[1024];
 
 static _Noreturn void refuse(const char *word, const char *why)
@@ -86,7 +89,7 @@ static bool is_flag(const char *word)
 static void take_value(const char *option, const char *value)
 {
     static const char *const options[] = { "--explore", "--runs", "--seed", "--states", "--replay", "--out", "--pct",
-                                           "--serve" };
+                                           "--serve", "--seconds" };
     bool is_known = false;
 
     for (size_t n = 0; n < sizeof options / sizeof *options; n++)
@@ -109,8 +112,11 @@ static void take_value(const char *option, const char *value)
         xi_given.pct = (unsigned)number_of(option, value, DEEPEST);
         if (!xi_given.pct)
             refuse(option, "its value is at least 1");
-    }
-    else if (!strcmp(option, "--serve"))
+    } else if (!strcmp(option, "--seconds")) {
+        xi_given.seconds = (unsigned)number_of(option, value, 1000000);
+        if (!xi_given.seconds)
+            refuse(option, "its value is at least 1");
+    } else if (!strcmp(option, "--serve"))
         xi_given.serve = value;
     else
         xi_given.out = value;

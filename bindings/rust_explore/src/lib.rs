@@ -15,8 +15,8 @@
 //! }
 //! ```
 //!
-//! The heap of the test is a part of the test's state if `Arena` is the global allocator. The test must keep nothing in
-//! statics, and use no threads, clock or random numbers. Options are words of the program. Without options, the
+//! All memory that the test writes is a part of its state: its stack, its heap with any allocator that calls `malloc`,
+//! statics and thread-local variables. The test must use no threads, files, clock or random numbers. Options are words of the program. Without options, the
 //! variables NIC_EXPLORE, NIC_REPLAY, NIC_OUT and NIC_SERVE are used. `nic82540em_explore.h` and `--help` describe
 //! both.
 

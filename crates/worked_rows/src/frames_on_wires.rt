@@ -49,6 +49,9 @@ two | arrived:0801 arrived:0802 5*arrived:0803 brought:0808 brought:0809 | drain
 bare | brought:0800 | drain:1 counts:1 drain:9 counts:9 | steps 3 missed 0 true rnbc 0 unclaimed 1 log 1 steps 0 no counts, log 0
 # The ticks of a call without an access are played at its end.
 two | | line:recv_b_0_/_txtake:a_go_deliver:b | E30 Empty@0 nothing@0 nothing@0
+# A run of no events changes nothing. The ticks of a call for a host that isn't there are played.
+two | gone:0800 | counts:1 nothing counts:1 | missed 0 true rnbc 0 unclaimed 0 log 1 missed 0 true rnbc 0 unclaimed 0 log 1
+two | | nobody | no host@0 nothing@0 nothing@0 nothing@0
 # Two groups share a bit of MTA, which a leave clears only if no joined group needs it.
 two | | join:01:00:5e:00:00:01 join:01:00:5f:00:00:01 leave:01:00:5e:00:00:01 | joined@1 joined@0 left@0
 two | join:01:00:5e:00:00:01 join:01:00:5f:00:00:01 leave:01:00:5e:00:00:01 | to:01005e000001 bring leave:01:00:5f:00:00:01 to:01005e000001 bring | ok took put stored left@1 ok took put filtered
@@ -62,5 +65,5 @@ two | 2*gone:0800 | line:reset_b_/_deliver:b_go_deliver:b counts:1 | sending 0 h
 
 #[test]
 fn frames_go_from_host_to_host(rt: HostRuntime) -> Result<(), Fail> {
-    check_rows::<Network>(&rt, rt.alloc(), ROWS, 38)
+    check_rows::<Network>(&rt, rt.alloc(), ROWS, 40)
 }

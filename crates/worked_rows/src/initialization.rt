@@ -4,7 +4,7 @@ use crate::fixtures::{A, NEEDED, bus_of, config, lively_bus};
 use adapter::offsets::{
     CTRL, ICR, IMS, PBA, RAL, RCTL, RDBAL, RDH, RDLEN, RDT, STATUS, TCTL, TDBAL, TDH, TDLEN, TDT,
 };
-use adapter::{Adapter, Bus, HonestBus, StepKind};
+use adapter::{Adapter, Bus, HonestBus};
 use arrayvec::ArrayVec;
 use driver::{Config, Driver, InitError};
 use eeprom::{Image, checksum_ok};
@@ -13,7 +13,7 @@ use scenario::Scenario;
 use std::alloc::Global;
 use std::process::Abort;
 use std::test::Fail;
-use wire::{Answer, Event, Lan, Outcome, PlanError, Tick, bring_up_host};
+use wire::{HostPlan, Lan, PlanError, bring_up_host};
 
 /// Two hosts on one wire. Host 1 has a socket for all frames.
 const TWO: &[u8] = b"host a 02:00:00:00:00:01 w\nhost b 02:00:00:00:00:02 w\nsocket b all\n";
@@ -58,25 +58,33 @@ fn initialize<B: Bus>(alloc: Global, bus: &mut B, config: &Config) -> Result<usi
     Ok(Driver::init(alloc, bus, config)?.receiving())
 }
 
+/// Initializes an adapter of host `a` on a bus with this memory.
+fn adapter_on_bus(alloc: Global, size: u64, config: &Config) -> Result<Adapter, Fail> {
+    let mut bus = lively_bus(alloc, size)?;
+    initialize(alloc, &mut bus, config)?;
+    Ok(bus.into_parts().0)
+}
+
+/// Initializes the adapter of a host of a network.
+fn adapter_of_host(rt: &impl Abort, alloc: Global, host: &HostPlan) -> Result<Adapter, Fail> {
+    assert!(rt; host.config.layout(u64::MAX).is_ok() && host.link == Link::After(1));
+    let (_, machine) = bring_up_host(alloc, host)?;
+    Ok(machine.into_parts().0)
+}
+
 #[test]
 fn registers_after_an_initialization(rt: HostRuntime) -> Result<(), Fail> {
     let alloc = rt.alloc();
-    let mut bus = lively_bus(alloc, NEEDED)?;
-    assert!(rt; initialize(alloc, &mut bus, &config(8, 8, 16)) == Ok(7));
-    check_registers(&rt, &bus.into_parts().0, 0x8000_0100);
+    check_registers(
+        &rt,
+        &adapter_on_bus(alloc, NEEDED, &config(8, 8, 16))?,
+        0x8000_0100,
+    );
     let plan = Scenario::read(alloc, TWO)?.plan;
-    for (number, host) in plan.hosts.iter().enumerate() {
-        assert!(rt; host.config.layout(u64::MAX).is_ok() && host.link == Link::After(1));
-        let (_, machine) = bring_up_host(alloc, host)?;
-        check_registers(
-            &rt,
-            machine.adapter(),
-            [0x8000_0100, 0x8000_0200][number & 1],
-        );
+    for (host, rah) in plan.hosts.iter().zip([0x8000_0100, 0x8000_0200]) {
+        check_registers(&rt, &adapter_of_host(&rt, alloc, host)?, rah);
     }
-    let mut bus = lively_bus(alloc, 10_616_832)?;
-    assert!(rt; initialize(alloc, &mut bus, &config(4096, 4096, 8192)) == Ok(4095));
-    let adapter = bus.into_parts().0;
+    let adapter = adapter_on_bus(alloc, 10_616_832, &config(4096, 4096, 8192))?;
     for (offset, wanted) in LARGE {
         assert!(rt; adapter.value(offset) == wanted, "{offset:x}");
     }
@@ -183,40 +191,6 @@ fn links_that_come_up_late_or_never(rt: HostRuntime) -> Result<(), Fail> {
         (Link::After(0), Some(PlanError::Config)),
     ] {
         assert!(rt; refusal(rt.alloc(), link)? == wanted, "{wanted:?}");
-    }
-    Ok(())
-}
-
-#[test]
-fn runs_without_events_and_calls_of_no_host(rt: HostRuntime) -> Result<(), Fail> {
-    let alloc = rt.alloc();
-    let mut lan = Lan::new(alloc, &Scenario::read(alloc, TWO)?.plan)?;
-    let mut replies = Vec::new(alloc);
-    let before = lan.counts(1);
-    lan.run(alloc, &[], &mut replies)?;
-    assert!(rt; replies.is_empty() && lan.counts(1) == before);
-    let ticks = [
-        Tick::Go,
-        Tick::Step(0, StepKind::TxTake),
-        Tick::Go,
-        Tick::Deliver(1),
-        Tick::Deliver(7),
-    ];
-    let send = Event::Send {
-        host: 9,
-        frame: &[0xFF; 60],
-        ticks: &ticks,
-    };
-    lan.run(alloc, &[send], &mut replies)?;
-    assert!(rt; replies.len() == 1);
-    let reply = &replies[0];
-    assert!(rt;
-        reply.answer == Answer::NoHost
-            && reply.accesses == 0
-            && reply.outcomes.as_slice().len() == 3
-    );
-    for one in reply.outcomes.as_slice() {
-        assert!(rt; one.accesses == 0 && one.outcome == Outcome::Nothing);
     }
     Ok(())
 }

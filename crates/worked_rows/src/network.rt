@@ -2,10 +2,11 @@
 
 use crate::said::{Player, frame_word, reply_words};
 use crate::taken::Taken;
+use adapter::StepKind;
 use scenario::{Command, Scenario};
 use std::alloc::Global;
 use std::test::Fail;
-use wire::{Event, Lan};
+use wire::{Event, Lan, Tick};
 
 /// The line of a frame of host `a` to host `b`, without the frame's type.
 const TO_B: &str = "send a 020000000002020000000001";
@@ -120,21 +121,43 @@ fn events_of(alloc: Global, scenario: &Scenario) -> Result<Vec<Event<'_>>, Fail>
 }
 
 impl Network {
-    /// Runs the events of lines, and returns their replies in one line.
-    fn run(&mut self, alloc: Global, lines: &str) -> Result<String, Fail> {
-        let text = format!(in alloc; "{}{lines}", self.setup)?;
-        let scenario = Scenario::read(alloc, text.as_bytes())?;
-        let events = events_of(alloc, &scenario)?;
+    /// Runs events, and returns their replies in one line.
+    fn run(&mut self, alloc: Global, events: &[Event<'_>]) -> Result<String, Fail> {
         let mut replies = Vec::new(alloc);
-        self.lan.run(alloc, &events, &mut replies)?;
+        self.lan.run(alloc, events, &mut replies)?;
         let mut said = String::new(alloc);
-        for (index, reply) in replies.iter().enumerate() {
-            if index > 0 {
+        for reply in &replies {
+            if !said.is_empty() {
                 said.push_str(" ")?;
             }
             said.push_str(reply_words(alloc, reply)?.as_str())?;
         }
         Ok(said)
+    }
+
+    /// Runs the events of lines.
+    fn run_lines(&mut self, alloc: Global, lines: &str) -> Result<String, Fail> {
+        let text = format!(in alloc; "{}{lines}", self.setup)?;
+        let scenario = Scenario::read(alloc, text.as_bytes())?;
+        let events = events_of(alloc, &scenario)?;
+        self.run(alloc, &events)
+    }
+
+    /// Makes a call for a host that isn't there, with ticks.
+    fn call_no_host(&mut self, alloc: Global) -> Result<String, Fail> {
+        let ticks = [
+            Tick::Go,
+            Tick::Step(0, StepKind::TxTake),
+            Tick::Go,
+            Tick::Deliver(1),
+            Tick::Deliver(7),
+        ];
+        let send = Event::Send {
+            host: 9,
+            frame: &[0xFF; 60],
+            ticks: &ticks,
+        };
+        self.run(alloc, &[send])
     }
 
     /// Drains a host, and returns the number of steps and the frames.
@@ -174,9 +197,11 @@ impl Player for Network {
         match name {
             "drain" => self.drain(alloc, host),
             "counts" => self.counts(alloc, host),
+            "nothing" => self.run(alloc, &[]),
+            "nobody" => self.call_no_host(alloc),
             _ => {
                 let line = line_of(alloc, name, argument)?;
-                self.run(alloc, line.as_str())
+                self.run_lines(alloc, line.as_str())
             }
         }
     }

@@ -4,6 +4,7 @@
 
 use adapter::{Fate, Outcome};
 use driver::Handled;
+use stations::Numbered;
 use std::alloc::Global;
 use std::process::Abort;
 use std::test::Fail;
@@ -133,9 +134,17 @@ fn answer_word(alloc: Global, reply: &Reply) -> Result<String, Fail> {
     }
 }
 
+/// Returns the outcome of a tick, and in a call `@` and the number of accesses before the tick.
+fn numbered_word(alloc: Global, one: &Numbered, is_call: bool) -> Result<String, Fail> {
+    let word = outcome_word(&one.outcome);
+    if is_call {
+        return Ok(format!(in alloc; " {word}@{}", one.accesses)?);
+    }
+    Ok(word.to_string(alloc)?)
+}
+
 /// Returns the answer to an event, and the outcomes of its ticks. `@` and the number of accesses follow the answer to a
-/// join, to a leave, and to a call without an access. In a call, `@` and the number of accesses before the tick follow
-/// an outcome.
+/// join, to a leave, and to a call without an access.
 pub(crate) fn reply_words(alloc: Global, reply: &Reply) -> Result<String, Fail> {
     let mut line = answer_word(alloc, reply)?;
     let is_call = !line.is_empty();
@@ -144,12 +153,7 @@ pub(crate) fn reply_words(alloc: Global, reply: &Reply) -> Result<String, Fail> 
         line.push_str(format!(in alloc; "@{}", reply.accesses)?.as_str())?;
     }
     for one in reply.outcomes.as_slice() {
-        let word = outcome_word(&one.outcome);
-        if is_call {
-            line.push_str(format!(in alloc; " {word}@{}", one.accesses)?.as_str())?;
-        } else {
-            line.push_str(word)?;
-        }
+        line.push_str(numbered_word(alloc, one, is_call)?.as_str())?;
     }
     Ok(line)
 }

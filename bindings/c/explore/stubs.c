@@ -1,0 +1,36 @@
+/* The calls of the test. Each is made by a function of bus.c, and then clears what this function has left on the stack
+ * of the test: in the frames of later functions, it would make states different.
+ */
+#ifdef __x86_64__
+#define STUB(name)                                                                                                       \
+    __asm__(".text\n.globl " #name "\n.type " #name ", @function\n" #name ":\n sub $8,%rsp\n call xi_made_" #name        \
+            "\n add $8,%rsp\n mov %rax,%rdx\n lea -512(%rsp),%rdi\n mov $64,%ecx\n xor %eax,%eax\n rep stosq\n"           \
+            " mov %rdx,%rax\n ret\n.size " #name ", .-" #name "\n");
+#elif defined(__aarch64__)
+#define STUB(name)                                                                                                       \
+    __asm__(".text\n.globl " #name "\n.type " #name ", %function\n" #name ":\n stp x29, x30, [sp, #-16]!\n"               \
+            " bl xi_made_" #name "\n ldp x29, x30, [sp], #16\n sub x9, sp, #512\n1:\n stp xzr, xzr, [x9], #16\n"          \
+            " cmp x9, sp\n b.lo 1b\n ret\n.size " #name ", .-" #name "\n");
+#else
+#define STUB(name) __asm__(".globl " #name "\n.set " #name ", xi_made_" #name "\n");
+#endif
+STUB(x_read)
+STUB(x_write)
+STUB(x_load)
+STUB(x_store)
+STUB(x_touch)
+STUB(x_access)
+STUB(x_host)
+STUB(x_arrive)
+STUB(x_offer)
+STUB(x_step)
+STUB(x_settle)
+STUB(x_line)
+STUB(x_choose)
+STUB(x_put_count)
+STUB(x_put)
+STUB(x_arrived_count)
+STUB(x_arrived)
+STUB(x_forget)
+STUB(x_handler)
+STUB(x_interrupts)

@@ -1,0 +1,21 @@
+/* Names the functions of the calls that stubs.c makes: x_read calls xi_made_x_read. */
+#define x_read xi_made_x_read
+#define x_write xi_made_x_write
+#define x_load xi_made_x_load
+#define x_store xi_made_x_store
+#define x_touch xi_made_x_touch
+#define x_access xi_made_x_access
+#define x_host xi_made_x_host
+#define x_arrive xi_made_x_arrive
+#define x_offer xi_made_x_offer
+#define x_step xi_made_x_step
+#define x_settle xi_made_x_settle
+#define x_line xi_made_x_line
+#define x_choose xi_made_x_choose
+#define x_put_count xi_made_x_put_count
+#define x_put xi_made_x_put
+#define x_arrived_count xi_made_x_arrived_count
+#define x_arrived xi_made_x_arrived
+#define x_forget xi_made_x_forget
+#define x_handler xi_made_x_handler
+#define x_interrupts xi_made_x_interrupts
