@@ -14,7 +14,7 @@ EVERY = "every schedule, with any number of deviations, without holds: none of "
 # By a name: the compiler's command, and what runs its programs
 COMPILERS = {
     "gcc -O0": (["gcc", "-O0"], []), "gcc -O2": (["gcc", "-O2"], []), "gcc -static": (["gcc", "-O0", "-static"], []),
-    "clang -O0": (["clang", "-O0"], []), "clang -O2": (["clang", "-O2"], []),
+    "clang -O1": (["clang", "-O1"], []), "clang -O2": (["clang", "-O2"], []),
     "musl": (["musl-gcc", "-O0"], []), "musl -static": (["musl-gcc", "-O2", "-static"], []),
     "aarch64": (["aarch64-linux-gnu-gcc", "-O2"], ["qemu-aarch64", "-L", "/usr/aarch64-linux-gnu"]),
 }

@@ -110,7 +110,7 @@ def build_release(checksum: str, is_wanted: bool) -> None:
         files = dist.release(sources.PROGRAM, is_wanted, "./nicbench --release")
         mark = dist.digest(sources.PROGRAM) if dist.changed(sources.PROGRAM, files) else checksum
         if not is_built(RELEASE, mark):
-            tell(f"compiling the proved program of {dist.named(files)}: some ten seconds")
+            tell(f"compiling the proved program of {dist.named(files)}: some seconds")
             dist.build_program(files, RELEASE)
             stamp(RELEASE, mark)
     except (dist.NoRelease, OSError) as error:

@@ -46,7 +46,8 @@ def assembled(rt: str, tell: Callable[[str], None]) -> str:
     """Returns the path of the object of the proved program; its assembly is next to it. Makes both if they aren't kept.
     """
     crates = sources.crates()
-    if prove.text_of(f"{KEPT}.sources") == prove.stamp(rt, crates) and os.path.exists(assembly.path_of(KEPT)):
+    stamp = prove.stamp(rt, crates)
+    if prove.text_of(f"{KEPT}.sources") == stamp and os.path.exists(assembly.path_of(KEPT)):
         return KEPT
     tell(f"taking the proofs of {len(crates)} crates, and proving what isn't proved")
     try:
@@ -59,9 +60,10 @@ def assembled(rt: str, tell: Callable[[str], None]) -> str:
             made = os.path.join(work, f"{sources.PROGRAM}.o")
             compile_program(rt, crates, made, work)
             os.makedirs(os.path.dirname(KEPT), exist_ok=True)
+            prove.write(f"{KEPT}.sources", "")
             for path, kept in ((made, KEPT), (assembly.path_of(made), assembly.path_of(KEPT))):
                 shutil.copyfile(path, kept)
     finally:
         shutil.rmtree(prove.WORK, ignore_errors=True)
-    prove.write(f"{KEPT}.sources", prove.stamp(rt, crates))
+    prove.write(f"{KEPT}.sources", stamp)
     return KEPT

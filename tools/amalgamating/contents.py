@@ -27,7 +27,7 @@ VARIABLES = """\
 __asm__(%s".text");
 """
 LABELS = """".{0}\\n.balign 4096\\n.globl __start_xi_{0}\\n.hidden __start_xi_{0}\\n__start_xi_{0}:\\n"
-        ".{0} 8000\\n.balign 4096\\n.globl __stop_xi_{0}\\n.hidden __stop_xi_{0}\\n__stop_xi_{0}:\\n"
+        ".{0}\\n.subsection 8000\\n.balign 4096\\n.globl __stop_xi_{0}\\n.hidden __stop_xi_{0}\\n__stop_xi_{0}:\\n"
         """
 # A source of the explorer that defines functions of the C library. A program may be linked without it.
 APART = "malloc.c"

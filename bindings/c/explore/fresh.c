@@ -156,7 +156,7 @@ static struct outcome endless(void)
         ; /* until both processes have ended */
     waitpid(server, NULL, 0);
     server = 0;
-    snprintf(outcome.fault, sizeof outcome.fault, "it doesn't end before SIG%s", sigabbrev_np(xi_stopped()));
+    snprintf(outcome.fault, sizeof outcome.fault, "it doesn't end before SIG%s", xi_signal(xi_stopped()));
     return outcome;
 }
 
@@ -177,7 +177,7 @@ static struct outcome ask(const struct request *request, const struct deviation 
         exit(NOT_RUN); /* it has printed why */
     if (!answer.is_there && WIFSIGNALED(answer.status)) {
         last = (struct outcome){ .fails = true };
-        snprintf(last.fault, sizeof last.fault, "ended by SIG%s", sigabbrev_np(WTERMSIG(answer.status)));
+        snprintf(last.fault, sizeof last.fault, "ended by SIG%s", xi_signal(WTERMSIG(answer.status)));
         return last;
     }
     if (!answer.is_there)

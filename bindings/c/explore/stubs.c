@@ -11,7 +11,7 @@
 #define STUB(name)                                                                                                       \
     __asm__(".text\n.globl " #name "\n.type " #name ", %function\n" #name ":\n stp x29, x30, [sp, #-16]!\n"               \
             " bl xi_made_" #name "\n ldp x29, x30, [sp], #16\n sub x9, sp, #512\n1:\n stp xzr, xzr, [x9], #16\n"          \
-            " cmp x9, sp\n b.lo 1b\n ret\n.size " #name ", .-" #name "\n");
+            " cmp sp, x9\n b.hi 1b\n ret\n.size " #name ", .-" #name "\n");
 #else
 #define STUB(name) __asm__(".globl " #name "\n.set " #name ", xi_made_" #name "\n");
 #endif

@@ -74,7 +74,7 @@ static void on_second(int number, siginfo_t *info, void *context)
         xi_fail(late);
     }
     if (is_stuck && stopped) {
-        snprintf(late, sizeof late, "it doesn't end before SIG%s", sigabbrev_np(stopped));
+        snprintf(late, sizeof late, "it doesn't end before SIG%s", xi_signal(stopped));
         xi_fail(late);
     }
     xi_resume(before);
