@@ -10,8 +10,8 @@ import time
 from harness import TOP, text_of
 
 # The scripts of the parts of `./test --quick`, in the order of the parts
-PARTS = ["build", "run", "serve", "library.py", "explore.py", "release", "readme_code", "python_code", "pages",
-         "twin_clauses"]
+PARTS = ["build", "run", "serve", "library.py", "explore.py", "amalgamation", "release", "readme_code", "python_code",
+         "pages", "twin_clauses"]
 # A part: it stores its words, and prints a file, if there is one for it. With another file it never ends.
 PART = """#!/bin/sh
 echo "$(basename "$0") $*" >>calls
@@ -47,26 +47,30 @@ def gate(tree):
     """
     put_gate(tree)
     status, lines, calls = ran(tree, "--quick")
-    tree.check("gate: its beginning", lines[:2], ["10 parts, about five minutes on four idle processors", "packages"])
-    ends = [re.fullmatch(r"== part (\d+) of 10: .*: (\d+) passed, (\d+) failed, 0 min \d+ s", line) for line in lines]
+    tree.check("gate: its beginning", lines[:2],
+               [f"{len(PARTS)} parts, about five minutes on four idle processors", "packages"])
+    ends = [re.fullmatch(rf"== part (\d+) of {len(PARTS)}: .*: (\d+) passed, (\d+) failed, 0 min \d+ s", line)
+            for line in lines]
     numbers = [found.groups() for found in ends if found]
-    tree.check("gate: its parts", numbers, 2 * [(str(part), "1", "0") for part in range(1, 11)])
+    tree.check("gate: its parts", numbers, 2 * [(str(part + 1), "1", "0") for part in range(len(PARTS))])
     tree.check("gate: its end", (status, re.sub(r"\d+ s", "N s", lines[-2]), lines[-1]),
-               (0, "10 parts: 0 min N s", "10 passed, 0 failed"))
+               (0, f"{len(PARTS)} parts: 0 min N s", f"{len(PARTS)} passed, 0 failed"))
     names = [call.split()[0] for call in calls]
     tree.check("gate: what ran", sorted(names), sorted([*PARTS, "packages"]))
     tree.check("gate: those that need others run in order", [name for name in names if name in PARTS[:5]], PARTS[:5])
     tree.check("gate: its words", [call for call in calls if call.split()[0] in ("packages", "build")],
                ["packages --quick", "build --quick-program .build/quick-program/nicbench --take"])
     for name in ("pages", "run"):
-        for file, text, wanted in [("out", b"2 passed, 3 failed\n", (11, 3)), ("out", b"nothing\n", (9, 1)),
-                                   ("fails", b"", (9, 1))]:
+        others = len(PARTS) - 1
+        for file, text, wanted in [("out", b"2 passed, 3 failed\n", (others + 2, 3)),
+                                   ("out", b"nothing\n", (others, 1)), ("fails", b"", (others, 1))]:
             tree.put(f"gate/{file}-{name}", text)
             status, lines, _ = ran(tree, "--quick")
             tree.check(f"gate: {name}: {text!r}", (status, lines[-1]), (1, "{} passed, {} failed".format(*wanted)))
             os.remove(tree.path(f"gate/{file}-{name}"))
     done = subprocess.run([tree.path("gate/test"), "--slow"], capture_output=True, text=True, check=False)
-    tree.check("gate: other words", (done.returncode, done.stdout, done.stderr), (2, "", "usage: ./test [--quick]\n"))
+    tree.check("gate: other words", (done.returncode, done.stdout, done.stderr),
+               (2, "", "usage: ./test [--quick | --dist]\n"))
 
 
 def gate_ended(tree):
