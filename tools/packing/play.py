@@ -16,7 +16,7 @@ FIRST = "line 1\n00000080\nline 0\n"
 EXPLORER = "$(pkg-config --cflags --libs nic82540em_explore)"
 STAGES = "{0}/stages.c {0}/driver.c"
 # all schedules of up to two deviations of the test `stages`
-EXPLORED = "all schedules of up to 2 deviations, without holds: none of 139966 fails\n...\n"
+EXPLORED = "all schedules of up to 2 deviations, without holds: none of 188947 fails\n...\n"
 # records RXT0 by ICS, and reads ICR
 PYTHON = "python3 -B -c 'from nic82540em import Nic; n = Nic(); n.write(0xC8, 0x80); print(hex(n.read(0xC0)))'"
 CAUSES = "0x80\n"
