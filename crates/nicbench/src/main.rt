@@ -3,7 +3,7 @@
 
 ghost use Rattle.command_line.specs.Jobs.{HasBounds};
 
-use command_line::{Job, LineError, line};
+use pcap_bench::{Job, LineError, line};
 use program_jobs::{Fault, run_drive, run_pass, run_scenario, run_serve, run_show};
 use std::env;
 use std::io::ErrorKind;

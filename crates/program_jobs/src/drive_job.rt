@@ -2,9 +2,8 @@
 ghost use Rattle.std.specs.Prelude.{◌<◌};
 
 use crate::fault::Fault;
-use command_line::DriveJob;
 use drive::{DriveCounts, DriveLimits, DriveRings, QtestBus, drive};
-use pcap_bench::{Frames, Sink};
+use pcap_bench::{DriveJob, Frames, Sink};
 use program_files::{create, read_file_trace};
 use std::alloc::AllocError;
 use std::io::{self, BufReader};

@@ -3,10 +3,8 @@ ghost use Rattle.std.specs.Prelude.{◌≡◌, IfOk, IfSome};
 
 use crate::fault::Fault;
 use crate::output_names::OutputNames;
-use command_line::RunJob;
-use pcap_bench::Sink;
+use pcap_bench::{RunJob, Scenario, Sink};
 use program_files::{FileSink, STANDARD_STREAM, create, path_in};
-use scenario::Scenario;
 use std::alloc::AllocError;
 use std::fs::{self, File};
 use std::os::unix::fs::MetadataExt;

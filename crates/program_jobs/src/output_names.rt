@@ -2,8 +2,7 @@
 ghost use Rattle.std.specs.Prelude.{◌≡◌, ◌≤◌, IfOk, length};
 ghost use Rattle.scenario_bench.specs.FileNames.{sockets_in, wires_in};
 
-use command_line::RunJob;
-use scenario_bench::{socket_files, wire_files};
+use pcap_bench::{RunJob, socket_files, wire_files};
 use std::alloc::{AllocError, Global};
 use wire::HostPlan;
 

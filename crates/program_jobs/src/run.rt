@@ -6,13 +6,13 @@ use crate::events_file::create_events_sink;
 use crate::fault::Fault;
 use crate::output_names::{OutputNames, output_names};
 use crate::trace_jobs::unit_of;
-use command_line::RunJob;
-use pcap_bench::{Sink, Trace, WriteError, WriterSink};
+use pcap_bench::{
+    Refusals, RunJob, Scenario, Sink, Summary, Trace, WriteError, WriterSink, bench_with,
+    print_summary,
+};
 use program_files::{
     STANDARD_STREAM, StandardError, create_all, find_folder, read_bytes, read_traces, report_play,
 };
-use scenario::Scenario;
-use scenario_bench::{Refusals, Summary, bench_with, print_summary};
 use std::io;
 
 /// Reads and parses the scenario at this path. Fails if it can't be read, or if a line is invalid.

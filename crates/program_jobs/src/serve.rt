@@ -4,9 +4,9 @@ ghost use Rattle.program_jobs.specs.Served.{IsImageFor, link_of, options_of};
 
 use crate::fault::Fault;
 use adapter_server::{ServeOptions, serve};
-use command_line::{ServeImage, ServeJob, ServeLink};
 use eeprom::{Image, WORDS};
 use mdic_phy::Link;
+use pcap_bench::{ServeImage, ServeJob, ServeLink};
 use program_files::{LateFile, open_record, read_front, read_player, store};
 use std::alloc::AllocError;
 use std::fs::File;

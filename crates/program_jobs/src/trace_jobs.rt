@@ -2,8 +2,7 @@
 ghost use Rattle.receive_lane.specs.Options.{HasVlanNumber};
 
 use crate::fault::Fault;
-use command_line::{PassJob, ShowJob};
-use pcap_bench::{Trace, Unit, WriterSink, pass, print_pass, show};
+use pcap_bench::{PassJob, ShowJob, Trace, Unit, WriterSink, pass, print_pass, show};
 use program_files::{STANDARD_STREAM, StandardError, create_whole, read_trace};
 use std::io;
 
