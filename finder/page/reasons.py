@@ -153,7 +153,7 @@ class Watch:
                 status = self.state.memory.get(ring.address(at) + STATUS)
                 if slot.state == FINISHED and status and status & EOP:
                     text = (f"The {step.action} of ICR clears RXT0 of frame {slot.frame}, which is finished in"
-                            f" rx[{at}]. The driver hasn't loaded DD of this slot, and doesn't load it later.")
+                            f" rx[{at}]. The driver hasn't loaded this DD, and doesn't load it later.")
                     self.forgotten[RX, at] = Finding(self.at, "late", text, HANDLER_RUNS)
         if cleared & BIT["RXO"]:
             self.missed = Finding(self.at, "rxo", f"The {step.action} of ICR clears RXO, and the driver doesn't read"
