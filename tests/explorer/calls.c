@@ -17,7 +17,7 @@
 enum { RING = 0x1000, BUFFERS = 0x10000, SIZE = 2048, SLOTS = 8, FRAMES = 3 };
 static _Thread_local unsigned of_thread;
 static unsigned of_program, next;
-static char *of_main;
+static char *of_main, *of_mmap;
 
 static void *be_thread(void *argument)
 {
@@ -43,6 +43,8 @@ static void count(const char *what)
         is_new = !of_thread++;
     if (!strcmp(what, "main"))
         is_new = !of_main[5]++;
+    if (!strcmp(what, "mapped"))
+        is_new = !of_mmap[5]++;
     if (!strcmp(what, "rand"))
         is_new = rand() == 1804289383;
     if (!strcmp(what, "printf"))
@@ -171,5 +173,6 @@ int main(int word_count, char **words)
     static char none[] = "";
 
     of_main = malloc(100), memset(of_main, 0, 100);
+    of_mmap = mmap(NULL, 1 << 16, PROT_READ | PROT_WRITE, MAP_PRIVATE | MAP_ANONYMOUS, -1, 0);
     return nic82540em_explore(word_count, words, test, word_count > 1 ? words[1] : none);
 }
