@@ -23,7 +23,8 @@ TWINS = {"flag": ([], 2), "heap": ([], 2), "dead": ([], 1), "prompt": ([], 2), "
 REFUSED = {"file": "opens a file (openat)", "stream": "opens a file (openat)", "fork": "starts a child (clone)",
            "system": "starts a child (clone3)", "thread": "starts a thread (clone3)",
            "input": "reads from a file (read)",
-           "shared": "maps memory (mmap)", "random": "asks for random numbers (getrandom)"}
+           "shared": "maps memory (mmap)", "random": "asks for random numbers (getrandom)",
+           "adapter": "makes an adapter of its own"}
 THREADS = ["-O0", "-ftrivial-auto-var-init=zero", "-pthread"]
 SAVED = "static", "mask", "thread-local", "main", "mapped", "rand", "printf", "stream in memory"
 WRONG_CALLS = {"x_choose": "x_choose: `count` isn't a number from 1 to 16", "x_load": "x_load: `into` is NULL",
