@@ -24,7 +24,8 @@ REFUSED = {"file": "opens a file (openat)", "stream": "opens a file (openat)", "
            "system": "starts a child (clone3)", "thread": "starts a thread (clone3)",
            "input": "reads from a file (read)",
            "shared": "maps memory (mmap)", "random": "asks for random numbers (getrandom)",
-           "adapter": "makes an adapter of its own"}
+           "adapter": "makes an adapter of its own",
+           "guard": "protects memory (mprotect)", "madvise": "gives memory back (madvise)"}
 THREADS = ["-O0", "-ftrivial-auto-var-init=zero", "-pthread"]
 SAVED = "static", "mask", "thread-local", "main", "mapped", "rand", "printf", "stream in memory"
 WRONG_CALLS = {"x_choose": "x_choose: `count` isn't a number from 1 to 16", "x_load": "x_load: `into` is NULL",

@@ -74,6 +74,10 @@ static void leave_process(const char *what)
         exit(mmap(NULL, 4096, PROT_READ | PROT_WRITE, MAP_SHARED | MAP_ANONYMOUS, -1, 0) != NULL);
     if (!strcmp(what, "adapter"))
         nic82540em_new(&(struct nic82540em){ 0 }, &x_options);
+    if (!strcmp(what, "guard"))
+        exit(mprotect(mmap(NULL, 4096, PROT_READ | PROT_WRITE, MAP_PRIVATE | MAP_ANONYMOUS, -1, 0), 4096, PROT_NONE));
+    if (!strcmp(what, "madvise"))
+        exit(madvise(of_mmap, 4096, MADV_DONTNEED));
     if (!strcmp(what, "random"))
         exit(getentropy(&byte, 1));
 }
