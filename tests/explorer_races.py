@@ -18,14 +18,16 @@ HOOKS = os.path.join(TOP, "bindings", "c", "explore", "pointers", "hooks.c")
 PASSES, FOUND, USAGE, NOT_RUN, NOTHING, DIFFERS = range(6)
 # For each test of passes.c: options, and the number of deviations of the smallest schedule of the wrong twin
 TWINS = {"flag": ([], 2), "heap": ([], 2), "dead": ([], 1), "prompt": ([], 2), "late": ([], 2), "settle": ([], 2),
-         "line": ([], 1), "link": (["--holds"], 5), "choose": ([], 1)}
+         "line": ([], 1), "link": (["--holds"], 5), "choose": ([], 1), "nested": ([], 3)}
 # What a test keeps or does, and the end of the line on standard error
 REFUSED = {"file": "opens a file (openat)", "stream": "opens a file (openat)", "fork": "starts a child (clone)",
            "system": "starts a child (clone3)", "thread": "starts a thread (clone3)",
            "input": "reads from a file (read)",
-           "shared": "maps memory (mmap)", "random": "asks for random numbers (getrandom)"}
+           "shared": "maps memory (mmap)", "random": "asks for random numbers (getrandom)",
+           "adapter": "makes an adapter of its own",
+           "guard": "protects memory (mprotect)", "madvise": "gives memory back (madvise)"}
 THREADS = ["-O0", "-ftrivial-auto-var-init=zero", "-pthread"]
-SAVED = "static", "mask", "thread-local", "main", "rand", "printf", "stream in memory"
+SAVED = "static", "mask", "thread-local", "main", "mapped", "rand", "printf", "stream in memory"
 WRONG_CALLS = {"x_choose": "x_choose: `count` isn't a number from 1 to 16", "x_load": "x_load: `into` is NULL",
                "x_store": "x_store: the driver stores bytes outside of memory", "x_arrive": "x_arrive: `frame` is NULL",
                "x_offer": "x_offer: `frame` is NULL", "x_put": "x_put: `into` is NULL",

@@ -17,7 +17,7 @@
 enum { RING = 0x1000, BUFFERS = 0x10000, SIZE = 2048, SLOTS = 8, FRAMES = 3 };
 static _Thread_local unsigned of_thread;
 static unsigned of_program, next;
-static char *of_main;
+static char *of_main, *of_mmap;
 
 static void *be_thread(void *argument)
 {
@@ -43,6 +43,8 @@ static void count(const char *what)
         is_new = !of_thread++;
     if (!strcmp(what, "main"))
         is_new = !of_main[5]++;
+    if (!strcmp(what, "mapped"))
+        is_new = !of_mmap[5]++;
     if (!strcmp(what, "rand"))
         is_new = rand() == 1804289383;
     if (!strcmp(what, "printf"))
@@ -70,6 +72,12 @@ static void leave_process(const char *what)
         exit((int)read(0, &byte, 1));
     if (!strcmp(what, "shared"))
         exit(mmap(NULL, 4096, PROT_READ | PROT_WRITE, MAP_SHARED | MAP_ANONYMOUS, -1, 0) != NULL);
+    if (!strcmp(what, "adapter"))
+        nic82540em_new(&(struct nic82540em){ 0 }, &x_options);
+    if (!strcmp(what, "guard"))
+        exit(mprotect(mmap(NULL, 4096, PROT_READ | PROT_WRITE, MAP_PRIVATE | MAP_ANONYMOUS, -1, 0), 4096, PROT_NONE));
+    if (!strcmp(what, "madvise"))
+        exit(madvise(of_mmap, 4096, MADV_DONTNEED));
     if (!strcmp(what, "random"))
         exit(getentropy(&byte, 1));
 }
@@ -171,5 +179,6 @@ int main(int word_count, char **words)
     static char none[] = "";
 
     of_main = malloc(100), memset(of_main, 0, 100);
+    of_mmap = mmap(NULL, 1 << 16, PROT_READ | PROT_WRITE, MAP_PRIVATE | MAP_ANONYMOUS, -1, 0);
     return nic82540em_explore(word_count, words, test, word_count > 1 ? words[1] : none);
 }

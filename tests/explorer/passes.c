@@ -286,6 +286,24 @@ static const char *chooses(void)
     return ready == arrived ? NULL : "a frame was lost";
 }
 
+/* The handler calls x_choose, too, and may cut in before the driver's x_choose. Wrong: the driver is closed with a frame
+ * that the handler has taken. */
+
+static void take_or_wait(void)
+{
+    x_read(NIC_ICR);
+    if (x_choose(2) == 0)
+        take();
+}
+
+static const char *nested(void)
+{
+    begin(SLOTS, SLOTS - 1), x_write(NIC_IMS, NIC_RXT0);
+    x_handler(take_or_wait);
+    arrive();
+    return x_choose(2) && ready && is_wrong ? "the driver is closed with a frame" : NULL;
+}
+
 /* Four frames of which the packet buffer has no room for all. The handler counts the frames that were missed, and gives
  * all slots back. Nothing is wrong: `while (x_settle());` must not end before all was received. */
 
@@ -323,7 +341,8 @@ static const struct {
     const char *name;
     const char *(*test)(void);
 } tests[] = { { "flag", flag }, { "heap", heap }, { "dead", dead }, { "prompt", prompt }, { "late", late },
-              { "settle", settle }, { "line", line }, { "link", link_up }, { "choose", chooses }, { "overrun", overrun } };
+              { "settle", settle }, { "line", line }, { "link", link_up }, { "choose", chooses }, { "nested", nested },
+              { "overrun", overrun } };
 
 static const char *test(void *word)
 {

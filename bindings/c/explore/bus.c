@@ -311,7 +311,7 @@ bool xi_deviate(int action)
     else if (action == HOLD_STEP)
         did = S->is_held = B->event == STEP;
     else if (action == CHOICE)
-        did = B->event == CHOOSE && S->choice && S->choice < S->choices;
+        did = B->event == CHOOSE && S->choice && S->choice < B->address;
     else if (action < TX)
         did = xi_play((uint32_t)action) != NIC_NOTHING;
     is_deviation = false;
@@ -574,10 +574,10 @@ unsigned x_choose(unsigned count)
     need(count >= 1 && count <= MOST_ANSWERS, "x_choose: `count` isn't a number from 1 to 16");
     if (xi_is_piped)
         return xi_pipe_choose(count);
-    S->choices = count, S->choice = 0;
+    S->choice = 0;
     at_place(CHOOSE, count);
     choice = (unsigned)xi_answer(S->choice);
-    S->choices = S->choice = 0;
+    S->choice = 0;
     xi_log_value(choice);
     back();
     return choice;

@@ -112,6 +112,7 @@ static const struct {
     { SYS_select, "select", "waits for a file" },
     { SYS_mmap, "mmap", "maps memory" },
     { SYS_mprotect, "mprotect", "protects memory" },
+    { SYS_madvise, "madvise", "gives memory back" },
     { SYS_shmget, "shmget", "shares memory" },
     { SYS_shmat, "shmat", "shares memory" },
     { SYS_memfd_create, "memfd_create", "opens a file" },
@@ -160,7 +161,7 @@ static bool is_harmless(long number, const long *words)
     case SYS_newfstatat:
         return is_terminal(words[0]) && has_no_name(words[1]);
     case SYS_rt_sigreturn: case SYS_tgkill: case SYS_gettid: case SYS_getpid: case SYS_futex:
-    case SYS_sched_yield: case SYS_nanosleep: case SYS_clock_nanosleep: case SYS_exit: case SYS_exit_group: case SYS_madvise:
+    case SYS_sched_yield: case SYS_nanosleep: case SYS_clock_nanosleep: case SYS_exit: case SYS_exit_group:
     case SYS_getuid: case SYS_geteuid: case SYS_getgid: case SYS_getegid: case SYS_getcpu: case SYS_membarrier:
         return true;
     }
@@ -175,7 +176,8 @@ static bool is_needless(long number, const long *words)
                        words[0] == 33;
 
     if (number == SYS_mprotect)
-        return (uintptr_t)words[0] >= XI_HEAP && (uintptr_t)words[0] < XI_HEAP + XI_HEAP_SIZE;
+        return words[2] == (PROT_READ | PROT_WRITE) && (uintptr_t)words[0] >= XI_HEAP &&
+               (uintptr_t)words[0] < XI_HEAP + XI_HEAP_SIZE;
     return number == SYS_rt_sigaction && is_librarys;
 }
 

@@ -78,8 +78,8 @@ static void burst(void)
 /* Draws whether the handler cuts in here, or is put off, and the answer to x_choose. */
 static void draw_interrupt(void)
 {
-    if (B->event == CHOOSE && S->choices > 1) {
-        unsigned choice = xi_below(S->choices);
+    if (B->event == CHOOSE && B->address > 1) {
+        unsigned choice = xi_below((unsigned)B->address);
         if (choice)
             xi_choose(choice);
     } else if (B->event == CALL && draw() % 4 == 0)

@@ -57,7 +57,7 @@ struct book {
     int stage, last;                         /* default steps so far; 1 + the last action at this place, or 0 */
     enum event event;
     bool is_sending; /* a transmit descriptor was stored, and TDT wasn't written since */
-    uint64_t address, history; /* of the place; a hash of all answers so far */
+    uint64_t address, history; /* of the place, or how many answers it has; a hash of all answers so far */
     bool knows_possible, knows_digest; /* of the adapter, as it is now */
     unsigned possible;
     struct digest digest;
@@ -83,7 +83,7 @@ struct state {
     bool is_put_off; /* the handler doesn't cut in after this access */
     bool is_settling, has_cut_in; /* x_settle runs; the handler has cut in meanwhile */
     bool is_late;    /* the handler cuts in after the next access, even if the line is lowered by then */
-    unsigned choices, choice; /* of x_choose: how many there are; the one that is taken */
+    unsigned choice; /* of x_choose: the answer that is taken */
     unsigned offered; /* the number of the offered frame that arrives next */
     unsigned dead_count; /* of the areas that dead.c has noted */
     uint32_t filling; /* 1 + the address of the receive descriptor whose buffer was written, until it is written back */

@@ -270,6 +270,8 @@ static void watch_mapping(const struct range *all, const char *name)
     }
     if (callers >= all->from && callers < to)
         xi_watch(callers, to);
+    else if (has_thread && !has_threads && to < all->to)
+        watch_without_own(all->from, to); /* of mmap: the kernel joins it with the memory of the thread above */
     else if (!has_thread && has_threads && *name != '/')
         watch_those_in(&segments, all);
     else if (!has_thread && strcmp(name, "[stack]"))

@@ -129,12 +129,15 @@ struct tried {
     void *block;
 };
 
-/* A block of at least a page begins a page, and no other block is in its pages. */
+/* A block of at least a page begins a page, and no other block is in its pages. A test that makes another adapter is
+ * refused: no digest has the memory of that one. */
 struct tried rattle_alloc(size_t size, size_t align)
 {
     size_t whole = size < PAGE ? align > 16 ? align : 16 : PAGE;
     size_t at = (xi_state->heap_used + whole - 1) / whole * whole, end = (at + size + whole - 1) / whole * whole;
 
+    if (x_inside() && xi_saves)
+        xi_pause(), xi_die_of("the test makes an adapter of its own", NULL);
     if (size == sizeof wire && x_options.memory != sizeof wire)
         return (struct tried){ true, wire };
     if (size > HEAP_PAGES * (size_t)PAGE || end > HEAP_PAGES * (size_t)PAGE)
