@@ -10,15 +10,16 @@
  *     int main(int count, char **words) { return nic82540em_explore(count, words, receives, "wrong"); }
  *
  * Rules for the test and its driver:
- *   - All memory that they write is a part of the test's state: the stack, static and thread-local variables, memory of
- *     malloc and x_memory, and the C library's own variables. Each run begins with this memory as it was when
- *     nic82540em_explore was called, and afterwards it is so again. What the test prints is printed only by --replay.
+ *   - What they write is a part of the test's state: the stack, static and thread-local variables, memory of malloc and
+ *     x_memory, and the C library's own variables, with the exceptions that docs/RACES.md names. Each run begins with
+ *     this memory as it was when nic82540em_explore was called, and afterwards it is so again. What the test prints is
+ *     printed only by --replay.
  *   - They use no clock, no random numbers and no input, open no file, and start no process and no thread. On x86-64, a
  *     system call for one of these ends the search, and is named.
  *   - The test passes without deviations, so it calls x_step or x_settle itself.
  *   - A driver that shares variables with its handler calls x_touch before it uses one, or is compiled with the hooks of
  *     pointers/hooks.c. Without both, the handler cuts in only before and after accesses and requests, and no race
- *     between two variables is found.
+ *     between two variables is found. x_interrupts(false) and x_handler aren't places: call x_touch before them, too.
  *   - Requests (x_arrive, x_offer, x_step, x_settle) are calls of the test, and not of the driver.
  */
 #ifndef NIC82540EM_EXPLORE_H

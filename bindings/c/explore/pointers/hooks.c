@@ -1,9 +1,9 @@
 /* Places before accesses by pointers, and of variables.
  *
- * Compile the driver alone with -fsanitize=thread -fno-builtin (gcc: also --param=tsan-distinguish-volatile=1), link this
- * file, and link no ThreadSanitizer. Then the driver calls a function before each load and store, also of an atomic
- * variable, and calls memcpy, memmove and memset for any size. All of them are here, and call x_access. What isn't seen:
- * memory that inline assembly accesses.
+ * Compile the driver alone with -fsanitize=thread -fno-builtin -U_FORTIFY_SOURCE (gcc: also
+ * --param=tsan-distinguish-volatile=1), link this file, and link no ThreadSanitizer. Then the driver calls a function
+ * before each load and store, also of an atomic variable, and calls memcpy, memmove and memset for any size. All of them
+ * are here, and call x_access. What isn't seen: memory that inline assembly accesses.
  */
 #include "nic82540em_explore.h"
 #include <string.h>
