@@ -1,4 +1,4 @@
-/* The search of schedules, which is proved: crates/schedule_search has the contracts of these calls.
+/* The search of schedules, which is proved: crates/search has the contracts of these calls.
  *
  * The search has no loop of its own. The explorer plays the runs: at each place it calls schedule_search_meet, and
  * after each run schedule_search_back. It keeps the path of choices and the table of known states.
@@ -6,6 +6,7 @@
 #ifndef SCHEDULE_SEARCH_H
 #define SCHEDULE_SEARCH_H
 
+#include <stdbool.h>
 #include <stddef.h>
 #include <stdint.h>
 
@@ -68,5 +69,89 @@ void schedule_search_fail(struct schedule_search *search);
 size_t schedule_search_find(const struct schedule_known *known, size_t room, const struct schedule_key *key);
 /* Notes the entries of the table `from` that aren't empty in the table `known`, as far as there is room. */
 void schedule_search_grow(const struct schedule_known *from, size_t count, struct schedule_known *known, size_t room);
+
+/* An action: what may be done before an access or a request. In a table of at most 64 actions, its index is its number;
+ * in a mask, action `n` is bit `n`. */
+#define SCHEDULE_NONE UINT32_MAX
+#define SCHEDULE_FREE UINT32_MAX
+/* How an action is drawn. ENGINE: by the mode of the drawing. HALF, QUARTER: once a place, with probability 1/2 or 1/4.
+ * ANSWER: of the possible actions of this kind, a place has one or none. */
+enum { SCHEDULE_ENGINE, SCHEDULE_HALF, SCHEDULE_QUARTER, SCHEDULE_ANSWER, SCHEDULE_UNDRAWN };
+struct schedule_action {
+    uint32_t actor;         /* at one place, actions of two actors commute; those of SCHEDULE_FREE with none */
+    uint32_t first, second; /* of a pair, the numbers of its two actions, of the same actor; otherwise SCHEDULE_NONE */
+    uint32_t drawn;         /* SCHEDULE_ENGINE to SCHEDULE_UNDRAWN */
+    uint32_t group;         /* for bursts and priorities: its group, from 1 on (0 is the driver), or SCHEDULE_NONE */
+};
+
+/* Writes the options at a place into `into`, in ascending order, as far as there is room. Returns their number, at most
+ * 64. `possible` is the mask of the actions that would do something. `last` is the last action at this place, or
+ * SCHEDULE_NONE. If every schedule is searched (`is_every`), all possible actions but pairs are options. Otherwise, all
+ * are options that are tried after `last`: those of its actor or a greater one, except for the second action of a pair
+ * whose first action is `last`; after or before an action of SCHEDULE_FREE, all. */
+size_t schedule_search_options(const struct schedule_action *actions, size_t count, uint64_t possible, uint32_t last,
+                               bool is_every, uint8_t *into, size_t room);
+
+/* What determines the draws of a run. UNIFORM: before each access, each action of an engine with probability 1/2, in a
+ * random order. BURSTS: before one access of 16, a random set of groups does all its work, at most 64 actions. PCT:
+ * probabilistic concurrency testing. The group with the highest priority goes first, and of a group the possible action
+ * with the highest number; at `depth` - 1 random events, the group of the event gets a priority below all first ones.
+ * `depth` is at most 16, `events` the number of places and actions of a run without deviations, and `groups` the number
+ * of groups with the driver's, at most 64. Only PCT uses these three. Before requests that begin a round, UNIFORM and
+ * BURSTS draw only one time in 8. */
+enum { SCHEDULE_UNIFORM, SCHEDULE_BURSTS, SCHEDULE_PCT };
+struct schedule_drawing {
+    uint32_t mode, depth, events, groups;
+    uint64_t seed, number; /* of the run: equal ones draw the same in equal modes */
+};
+struct schedule_site {
+    uint64_t possible; /* the actions that would do something when the place is reached */
+    uint64_t poll;     /* 0 if the place is no read; otherwise equal for reads of one register or address */
+    bool is_request;   /* the place is a request that begins a round */
+};
+/* The draws of a run: only the calls change these. */
+struct schedule_draw {
+    struct schedule_drawing settings;
+    uint64_t state, stream; /* of a generator PCG32 */
+    uint64_t left, chosen;
+    uint32_t phase, burst;
+    uint32_t priorities[64], changes[16], event, reads;
+    uint64_t poll;
+    bool must_wait;
+};
+
+/* Begins the draws of a run. At each place, the caller calls schedule_search_draw_place, and then does what
+ * schedule_search_draw_next returns, until this is SCHEDULE_NONE: the run goes on. After an action that ends the place
+ * (the handler cuts in, an answer), the caller goes on at once. `possible` is the mask of the actions that would do
+ * something now: only such actions are drawn. First come actions of QUARTER, then of ENGINE, then of HALF, and then an
+ * answer. What is drawn depends only on the arguments. */
+void schedule_search_draw(struct schedule_draw *draw, const struct schedule_drawing *settings);
+void schedule_search_draw_place(struct schedule_draw *draw, const struct schedule_site *site);
+uint32_t schedule_search_draw_next(struct schedule_draw *draw, const struct schedule_action *actions, size_t count,
+                                   uint64_t possible);
+
+/* A deviation: an action before an access or a request. */
+struct schedule_deviation {
+    uint32_t round, access, sub, action;
+};
+/* How far the shrinking of a schedule is: only the calls change this. */
+struct schedule_shrink {
+    size_t part, at;
+    uint32_t phase, step;
+    bool is_changed, is_asked;
+};
+
+/* Begins to shrink a failing schedule of `count` deviations. The caller plays what schedule_search_shrink_next returns,
+ * until this is SIZE_MAX. If a schedule fails, and did something with fewer deviations than `kept`, or as many of which
+ * an answer is lower, the caller keeps what did something, and calls schedule_search_shrink_fails. */
+void schedule_search_shrink(struct schedule_shrink *shrink, size_t count);
+/* Writes the next schedule to play in place of the failing schedule `kept`: `kept` without a run of neighbors, or with
+ * a lower answer, or with two deviations joined to their pair at the place of one of them. Returns its number of
+ * deviations, or SIZE_MAX if none is left, or if `room` is less than `kept_count`. */
+size_t schedule_search_shrink_next(struct schedule_shrink *shrink, const struct schedule_action *actions, size_t count,
+                                   const struct schedule_deviation *kept, size_t kept_count,
+                                   struct schedule_deviation *into, size_t room);
+/* Notes that this schedule fails and is kept: `count` of its deviations did something. */
+void schedule_search_shrink_fails(struct schedule_shrink *shrink, size_t count);
 
 #endif

@@ -1,6 +1,0 @@
-mod Laws
-mod Lists
-mod Passing
-mod Paths
-mod Steps
-mod Tried

@@ -1,5 +1,0 @@
-use Rattle.schedule_search.proofs.Lists.{lists_all}
-use Rattle.schedule_search.proofs.lists_all.Goals as goal
-
-pub returns : goal.returns
-returns c = lists_all

@@ -1,0 +1,12 @@
+mod Bits
+mod Generating
+mod Going
+mod Inserting
+mod Laws
+mod Lists
+mod Passing
+mod Paths
+mod Shorter
+mod Steps
+mod Tried
+mod Written
