@@ -11,10 +11,11 @@
  *   - The areas that two pointers of one call point to must not overlap.
  *   - Make all calls for one adapter in one thread.
  *
- * Only nic82540em_new, nic82540em_copy, nic82540em_offer and nic82540em_play request memory.
+ * Only these calls request memory: nic82540em_new, _copy, _offer and _play; _serve, _answer, _comes and _deviate.
  *
  * The handle `nic` has no adapter before nic82540em_new and after nic82540em_free. Then each call but nic82540em_new
  * changes nothing. If the call has a result, the result is 0, false or NIC_REFUSED. nic82540em_print is no such call.
+ * The same holds of the handle `server` with nic82540em_serve and nic82540em_close.
  *
  * The code of these calls is proved, except in a library of `tools/library --quick`. This header, heap.c and your
  * program are trusted.
@@ -281,6 +282,88 @@ uint64_t nic82540em_digest(struct nic82540em *nic);
  * Adapters with the same state have equal digests for each seed. The digest covers neither the host's memory nor what
  * nic82540em_digest doesn't cover. */
 uint64_t nic82540em_state_digest(struct nic82540em *nic, uint64_t seed);
+
+/* Returns the length of the name by which schedules name what an access reaches, and copies the first `room` bytes of
+ * the name to `into`: a register as ICR, a byte of a descriptor as rx[1]+8, or a byte of memory as 0x10000. If `before`
+ * is 1 or 2, `address` is the offset of a register; if it is 3 or 4, an address in the host's memory. Nothing changes.
+ * Returns 0 for another number, or an offset above 0xFFFFFFFF. A name has at most 128 bytes. */
+size_t nic82540em_name(struct nic82540em *nic, uint32_t before, uint64_t address, void *into, size_t room);
+
+/* Lines of `nicbench serve`, answered in process (docs/SERVE.md): a test in another program writes the lines, and this
+ * program answers each of them, and lets the adapter take steps before it. */
+
+/* A handle of a served adapter. It begins with zeros, as `struct nic82540em`. */
+struct nic82540em_server {
+    bool held;
+    void *state;
+};
+
+/* Makes an adapter as nic82540em_new does, and its server. `registers` is the address of the first register, and `seed`
+ * the seed of `interleave` (0xFEB00000 and 0 by default in `nicbench serve`). Returns false, and changes nothing, in
+ * the cases of nic82540em_new. */
+bool nic82540em_serve(struct nic82540em_server *server, const struct nic82540em_options *options, uint64_t registers,
+                      uint64_t seed);
+
+/* Frees the server of the handle. The handle may then be used for another server. */
+void nic82540em_close(struct nic82540em_server *server);
+
+/* Answers a line of `length` bytes, without its line feed: changes the server as `nicbench serve` would, and returns
+ * the number of bytes that it would write. The first `room` of these bytes are copied to `into`; nic82540em_told copies
+ * them again. They begin with what nic82540em_deviate told since the answer before.
+ *
+ * Returns 0 if memory was refused. The server is then dead: from now on, each call of it returns 0 or false, and does
+ * nothing, until nic82540em_close. */
+size_t nic82540em_answer(struct nic82540em_server *server, const void *line, size_t length, void *into, size_t room);
+
+/* Returns the number of bytes of the last answer, and copies the first `room` of them to `into`. */
+size_t nic82540em_told(struct nic82540em_server *server, void *into, size_t room);
+
+/* What a line is in a schedule. */
+enum {
+    NIC_COMES_NOTHING, /* no place of a schedule: the line is refused, looks, changes a setting, or sets the clock */
+    NIC_COMES_READ,    /* a read of a register or of memory */
+    NIC_COMES_WRITE,   /* a write of a register or of memory */
+    NIC_COMES_ARRIVE,  /* `arrive` */
+    NIC_COMES_OFFER,   /* `offer` */
+    NIC_COMES_STEP,    /* `step` */
+    NIC_COMES_SETTLE,  /* `settle` */
+    NIC_COMES_CHOOSE   /* `choose` */
+};
+
+/* The place of a line in a schedule. */
+struct nic82540em_coming {
+    uint32_t kind;    /* NIC_COMES_NOTHING .. NIC_COMES_CHOOSE; the other members are 0 if it is NIC_COMES_NOTHING */
+    uint32_t round;   /* the number of the round */
+    uint32_t access;  /* the number of the access in the round, from 1; 0: the line begins the round */
+    uint64_t address; /* the address of a read or a write, else 0 */
+    uint32_t limit;   /* the limit of `choose`, else 0 */
+};
+
+/* Stores in `coming` what a line would be if it came now. Returns the length of its name in schedules, such as ICR,
+ * rx[1]+8 or settle, and copies the first `room` bytes of the name to `name`. The line isn't answered, and nothing
+ * changes. If memory was refused, stores NIC_COMES_NOTHING and returns 0, and the server is dead. */
+size_t nic82540em_comes(struct nic82540em_server *server, const void *line, size_t length,
+                        struct nic82540em_coming *coming, void *name, size_t room);
+
+/* Returns what nic82540em_deviate would do something for now: bit `kind` for a step of this kind, and bit 31 if an
+ * offered frame waits. */
+uint32_t nic82540em_can(struct nic82540em_server *server);
+
+/* The number by which nic82540em_deviate lets the oldest offered frame arrive. */
+#define NIC_OFFERED 6u
+
+/* Makes the adapter take a step of the kind `action`, or lets the oldest offered frame arrive if `action` is
+ * NIC_OFFERED. Returns whether this did something. What the server would write about it comes before the text of the
+ * next answer: a new level of the interrupt line, and lines of the log and of events. Returns false, and does nothing,
+ * for another number. If memory was refused, returns false, and the server is dead. */
+bool nic82540em_deviate(struct nic82540em_server *server, uint32_t action);
+
+/* Sets the number that answers the next request `choose`, if the number is below its limit. Otherwise the answer is 0.
+ * While steps are random (`interleave`), the answer is random. Returns true, or false if the server is dead. */
+bool nic82540em_answers(struct nic82540em_server *server, uint32_t number);
+
+/* Returns nic82540em_state_digest of the served adapter. */
+uint64_t nic82540em_server_digest(struct nic82540em_server *server, uint64_t seed);
 
 #ifdef __cplusplus
 }

@@ -17,6 +17,8 @@ import zipfile
 from typing import Mapping, NoReturn, Optional
 
 NAME, FILE = "nic82540em", "libnic82540em.so"
+# The modules of the package
+MODULES = "__init__.py", "__main__.py", "calls.py", "server.py"
 HERE = os.path.dirname(os.path.abspath(__file__))
 TOP = os.path.dirname(os.path.dirname(HERE))
 SUMMARY = "An Intel 82540EM and its host's memory in the process of a driver"
@@ -32,9 +34,15 @@ with Nic() as nic:
     nic.write(0xC8, 0x80)  # ICS: record RXT0
     assert nic.read(0xC0) == 0x80
 ```
+
+A test is a function that gets such an `Adapter`, and raises an exception if it fails. `python3 -m nic82540em --here
+FILE.py:FUNCTION` runs the test once. The finder of races runs it with one schedule after another:
+`nicbench-races -- python3 -m nic82540em FILE.py:FUNCTION`.
 """
-# The library is built only for x86-64.
-TAG = "py3-none-linux_x86_64"
+# The numbers of processors in the header of an object (ELF), as names of Linux
+MACHINES = {0x3E: "x86_64", 0xB7: "aarch64"}
+# The class for pipes, which `python3 -m nic82540em` uses
+PIPE = os.path.join(TOP, "examples", "drivers", "adapter.py")
 # The first moment that a ZIP archive can hold
 MOMENT = (1980, 1, 1, 0, 0, 0)
 
@@ -72,6 +80,11 @@ def version_of(folder: str) -> str:
     return found[1].decode()
 
 
+def tag_of(library: bytes) -> str:
+    """The systems for which a wheel with this shared library is."""
+    return f"py3-none-linux_{MACHINES[int.from_bytes(library[18:20], 'little')]}"
+
+
 def record_of(files: Mapping[str, bytes], name: str) -> bytes:
     """The contents of RECORD, the last file of a wheel: all files with their checksums and sizes."""
     def line(path: str, data: bytes) -> str:
@@ -87,19 +100,24 @@ def build_wheel(wheel_directory: str, config_settings: Optional[Mapping[str, str
     folder = folder_of_library(config_settings)
     version = version_of(folder)
     info = f"{NAME}-{version}.dist-info"
+    library = bytes_of(os.path.join(folder, FILE))
+    tag = tag_of(library)
     files = {
-        f"{NAME}/__init__.py": bytes_of(os.path.join(HERE, NAME, "__init__.py")),
+        **{f"{NAME}/{name}": bytes_of(os.path.join(HERE, NAME, name)) for name in MODULES},
+        f"{NAME}/pipe.py": bytes_of(PIPE),
         f"{NAME}/py.typed": b"",
-        f"{NAME}/{FILE}": bytes_of(os.path.join(folder, FILE)),
+        f"{NAME}/{FILE}": library,
         f"{info}/METADATA": f"Metadata-Version: 2.1\nName: {NAME}\nVersion: {version}\nSummary: {SUMMARY}\n"
-                            "Requires-Python: >=3.8\nClassifier: Typing :: Typed\n"
+                            "Requires-Python: >=3.8\nLicense-File: LICENSE\n"
+                            "Keywords: ethernet,82540em,e1000,driver,testing,races\nClassifier: Typing :: Typed\n"
                             "Classifier: Operating System :: POSIX :: Linux\n"
                             "Classifier: Topic :: Software Development :: Testing\n"
                             "Description-Content-Type: text/markdown\n\n".encode() + README,
-        f"{info}/WHEEL": f"Wheel-Version: 1.0\nGenerator: {NAME}\nRoot-Is-Purelib: false\nTag: {TAG}\n".encode(),
+        f"{info}/WHEEL": f"Wheel-Version: 1.0\nGenerator: {NAME}\nRoot-Is-Purelib: false\nTag: {tag}\n".encode(),
+        f"{info}/LICENSE": bytes_of(os.path.join(TOP, "LICENSE")),
     }
     files[f"{info}/RECORD"] = record_of(files, f"{info}/RECORD")
-    wheel = f"{NAME}-{version}-{TAG}.whl"
+    wheel = f"{NAME}-{version}-{tag}.whl"
     with zipfile.ZipFile(os.path.join(wheel_directory, wheel), "w", zipfile.ZIP_DEFLATED) as archive:
         for path, data in files.items():
             member = zipfile.ZipInfo(path, MOMENT)

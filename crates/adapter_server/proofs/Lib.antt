@@ -1,4 +1,5 @@
 pub mod FromNew
+pub mod Lines
 pub mod Places
 pub mod Printing
 pub mod ReadRequests

@@ -12,7 +12,7 @@ use Rattle.adapter_server.specs.declared.snapshot.Server.{Server}
 abbrev refused : Refusal → Result Request Refusal
 refused refusal = Err refusal
 
-not_both : (request : Request) (refusal : Refusal) → refused refusal ≡ Ok request → ⊥
+pub not_both : (request : Request) (refusal : Refusal) → refused refusal ≡ Ok request → ⊥
 not_both request refusal e = cc
 
 same_refusal : (one two : Refusal) → refused one ≡ refused two → one ≡ two

@@ -17,7 +17,7 @@ use Rattle.server_requests.specs.declared.request.Wanted.{Wanted}
 use Rattle.adapter_server.specs.Answers.{AccessServed, Answered, AnswersChoice, Played, ReadsAt, SettlesUntil, TellsAnswer}
 use Rattle.adapter_server.specs.Sessions.{met_before, moves_before, wanted_number, writing_access}
 use Rattle.adapter_server.specs.Tasks.{AnswersAfter, FitsTask, Performs, PlaysTask, task_agenda, task_begun, task_met, task_moves}
-use Rattle.adapter_server.specs.Tasks.{task_wanted}
+use Rattle.adapter_server.specs.Tasks.{number_wanted, task_number, task_wanted}
 use Rattle.adapter_server.specs.declared.session.AccessPlace.{AccessPlace}
 use Rattle.adapter_server.specs.declared.session.AccessPlace.TheVariants.{Memory, Register}
 use Rattle.adapter_server.specs.declared.session.Session.{Session}
@@ -135,12 +135,16 @@ moved_fits (tasks.SetClock time) into moves a b told made fits = tt
 
 -- the session after its agenda, if there is one, has met the task
 abbrev pub met_by : Task → Session → Session
-met_by task session = record session { agenda = task_agenda task session.device.machine.world.adapter session.agenda }
+met_by task session = record session {
+  agenda = task_agenda task session.device.machine.world.adapter session.agenda;
+  number = task_number task session.number;
+}
 
 -- What answers a task after the recorder began the task's event.
 abbrev pub AnswersBegun : Task → (said : Text) → Session → Session → Text → Type 0
 AnswersBegun task said a b text =
-    AnswersAfter (task_moves task a.device a.agenda) (task_wanted task a.agenda) task said (met_by task a) b text
+    AnswersAfter (task_moves task a.device a.agenda) (number_wanted task a.number (task_wanted task a.agenda)) task said (met_by task a) b
+    text
 
 pub performs : {T E : Type 0} (result : Result T E) (task : Task) (said : Text) (a begun b : Session)
     (before after : Option (List ℕ)) → begun ≡ task_begun task a → TellsAnswer result before after (AnswersBegun task said begun) b

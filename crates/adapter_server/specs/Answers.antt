@@ -212,6 +212,24 @@ enabled_with works wire_free = record {
   phy = works kinds.PhyTick;
 }
 
+-- whether a step of this kind is enabled: `works`, but `TxPut` only if the wire is free
+abbrev pub enabled_if : StepKind → (works wire_free : Bool) → Bool
+enabled_if kinds.TxTake works wire_free = works
+enabled_if kinds.TxPut works wire_free = works && wire_free
+enabled_if kinds.RxData works wire_free = works
+enabled_if kinds.RxDone works wire_free = works
+enabled_if kinds.EepromTick works wire_free = works
+enabled_if kinds.PhyTick works wire_free = works
+
+-- The answer is whether the outcome of a step of this kind would now be neither `Nothing` nor `WireFull`.
+pub record CanDo (kind : StepKind) (answer : Bool) (device : PlayedAdapter) : Type 0 where
+  -- whether the step has another outcome than `Nothing`, whatever is in memory and on the wire
+  pub works : Bool
+  -- `TellsWork` holds of `works` for this kind
+  pub tells : TellsWork kind works device.machine.world.adapter
+  -- `works`, but `TxPut` only if the wire is free
+  pub answer_is : answer ≡ enabled_if kind works device.wire_free
+
 -- These are the kinds of steps whose outcome now would be neither `Nothing` nor `WireFull`.
 pub record CanStep (device : PlayedAdapter) (enabled : EnabledSteps) : Type 0 where
   -- whether a step of this kind has another outcome than `Nothing`, whatever is in memory and on the wire

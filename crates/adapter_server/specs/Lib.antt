@@ -1,6 +1,8 @@
 pub mod Causes
+pub mod Comings
 pub mod Defaults
 pub mod Sessions
+pub mod LineServers
 pub mod NewSessions
 pub mod Answers
 pub mod Serving

@@ -2,7 +2,7 @@
 use denote.RawPtr.{Ptr}
 use Rattle.std.specs.Prelude.{[]}
 use Rattle.registers.specs.ConfigSpace.{new_function}
-use Rattle.std.specs.Prelude.{Option, false}
+use Rattle.std.specs.Prelude.{None, Option, false}
 use Rattle.std.specs.Prelude.{replicate}
 use Rattle.std.specs.Option.{option_map}
 use Rattle.step_schedules.specs.Agendas.{AgendaState}
@@ -39,5 +39,6 @@ new_session options player address = record {
   clock = 0;
   kept = record { log = false; events = false; put = []; faults = []; recorder = recorder_of player };
   agenda = agenda_of_player player;
+  number = None;
   targets = false;
 }

@@ -1,7 +1,7 @@
 -- The state of an adapter that is served, and the moves of a player before accesses and requests (our choice).
 use denote.RawPtr.{Ptr}
 use Rattle.std.specs.Prelude.{◌≡◌, ◌==◌, ◌+◌, ◌-◌, ◌%◌, ◌&&◌, [], ℕ, Bool, List, Option, None, Some, Result, Err, Ok, false, true}
-use Rattle.std.specs.Prelude.{codes, if◌then◌else◌, length, nat_le, nat_lt}
+use Rattle.std.specs.Prelude.{codes, if◌then◌else◌, length, nat_le, nat_lt, unwrap_or}
 use Rattle.std.specs.Int.{from_le_bytes, w32}
 use Rattle.std.specs.Option.{option_map, option_map_or}
 use Rattle.access_names.specs.Names.{target_text}
@@ -106,12 +106,20 @@ abbrev pub begun_recorder : Before → (name : Text) → Option AgendaState → 
 begun_recorder before name agenda recorder =
     option_map_or (λ (agenda : AgendaState). option_map (begun (coming before name agenda)) recorder) agenda recorder
 
+-- the number that waits for a request for a number, after an access or a request of this kind came: a request for a number takes it
+abbrev pub number_after : Before → Option ℕ → Option ℕ
+number_after Read number = number
+number_after Write number = number
+number_after Request number = number
+number_after Choice number = None
+
 -- The session after its player, if there is one, has met an access of a target with this name, or a request with this first word: the
--- recorder began the access or request, and the agenda counted it.
+-- recorder began the access or request, and the agenda counted it. A request for a number takes the number that waits for it.
 abbrev pub meeting : Before → (name : Text) → Session → Session
 meeting before name session = record session {
   agenda = met_agenda before name session.agenda;
   kept = record session.kept { recorder = begun_recorder before name session.agenda session.kept.recorder };
+  number = number_after before session.number;
 }
 
 -- The moves of the agenda, if there is one, before an access of a target with this name, or a request with this first word. A request for a
@@ -131,9 +139,9 @@ abbrev pub wanted_with : Before → (name : Text) → Option AgendaState → ℕ
 wanted_with before name agenda =
     option_map_or (λ (agenda : AgendaState). chosen (due_in_agenda before name agenda)) agenda 0
 
--- the number in the schedule that is due at a request for a number, or 0
+-- the number that waits for a request for a number, or else the number in the schedule that is due at this request, or else 0
 abbrev pub wanted_number : Session → ℕ
-wanted_number session = wanted_with Choice (codes "choose") session.agenda
+wanted_number session = unwrap_or session.number (wanted_with Choice (codes "choose") session.agenda)
 
 -- the name of the target of an access of the session's adapter and memory
 abbrev pub target_name : Access → Session → Text

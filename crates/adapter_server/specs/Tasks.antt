@@ -1,5 +1,5 @@
 -- What the adapter does for a request (our choice).
-use Rattle.std.specs.Prelude.{⊤, ◌≡◌, ℕ, List, [], ◌∷◌, Option, Some, None, Result, Ok, Err, codes, if◌then◌else◌, length}
+use Rattle.std.specs.Prelude.{⊤, ◌≡◌, ℕ, List, [], ◌∷◌, Option, Some, None, Result, Ok, Err, codes, if◌then◌else◌, length, unwrap_or}
 use Rattle.std.specs.Int.{to_le_bytes, w32}
 use Rattle.std.specs.List.{concat}
 use Rattle.std.specs.Option.{option_map_or}
@@ -70,6 +70,11 @@ abbrev pub task_recorder : Task → AdapterState → Option AgendaState → Opti
 task_recorder task adapter agenda recorder =
     option_map_or (λ (before : Before). begun_recorder before (task_name task adapter) agenda recorder) (task_before task) recorder
 
+-- the number that waits for a request `choose`, after the task came: `choose` takes it
+abbrev pub task_number : Task → Option ℕ → Option ℕ
+task_number (tasks.Choose limit) number = None
+task_number task number = number
+
 -- the session after its recorder, if there is a player, began the task's access or request; the same session if the task sets the clock
 abbrev pub task_begun : Task → Session → Session
 task_begun task session =
@@ -77,10 +82,12 @@ task_begun task session =
     record session { kept = record session.kept { recorder = recorder } }
 
 -- The session after its player, if there is one, has met the task: the recorder began the task's access or request, and the agenda counted
--- it. The same session if the task sets the clock.
+-- it. The task `choose` takes the number that waits for it. The same session if the task sets the clock.
 abbrev pub task_met : Task → Session → Session
-task_met task session =
-    record (task_begun task session) { agenda = task_agenda task session.device.machine.world.adapter session.agenda }
+task_met task session = record (task_begun task session) {
+  agenda = task_agenda task session.device.machine.world.adapter session.agenda;
+  number = task_number task session.number;
+}
 
 -- the moves of the agenda, if there is one, before the task; no moves if the task sets the clock
 abbrev pub task_moves : Task → PlayedAdapter → Option AgendaState → List Move
@@ -91,6 +98,11 @@ task_moves task device agenda =
 abbrev pub task_wanted : Task → Option AgendaState → ℕ
 task_wanted (tasks.Choose limit) agenda = wanted_with Choice (codes "choose") agenda
 task_wanted task agenda = 0
+
+-- the number that answers the task `choose`: `number`, if there is one, or else `due`; `due` for other tasks
+abbrev pub number_wanted : Task → (number : Option ℕ) → (due : ℕ) → ℕ
+number_wanted (tasks.Choose limit) number due = unwrap_or number due
+number_wanted task number due = due
 
 -- the line of an access, and after it the name of the access's target
 abbrev pub named_line : (said : Text) → Task → Session → Text
@@ -145,4 +157,5 @@ AnswersAfter moves wanted task said a b text = (line : Text)
 -- The player, if there is one, meets a task, unless the task sets the clock. Then the task is played and answered.
 abbrev pub Performs : Task → (said : Text) → Session → Session → Text → Type 0
 Performs task said a b text =
-    AnswersAfter (task_moves task a.device a.agenda) (task_wanted task a.agenda) task said (task_met task a) b text
+    AnswersAfter (task_moves task a.device a.agenda) (number_wanted task a.number (task_wanted task a.agenda)) task said (task_met task a) b
+    text

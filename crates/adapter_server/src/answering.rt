@@ -43,7 +43,8 @@ pub(crate) fn perform<W: Write>(
         stopped: None,
     };
     let device = &mut session.device;
-    let wanted = task.meet(device, &mut session.agenda, &mut lines);
+    let due = task.meet(device, &mut session.agenda, &mut lines);
+    let wanted = task.take_number(&mut session.number, due);
     match task.play(alloc, device, wanted, into, &mut lines) {
         Ok(answer) => lines.end(answer),
         // A task fails only if memory is refused.
@@ -136,7 +137,7 @@ impl Server {
 
     /// Answers a line, or refuses a line that is too long or isn't a request. Does nothing at the end of the input.
     /// `next` is the result of reading the line.
-    pub(crate) fn answer_next<W: Write>(
+    pub fn answer_next<W: Write>(
         &mut self,
         alloc: Global,
         out: &mut W,

@@ -56,6 +56,7 @@ pub(crate) fn new_server(
             recorder,
         },
         agenda,
+        number: None,
         targets: false,
     };
     Server {

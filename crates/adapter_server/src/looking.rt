@@ -1,6 +1,6 @@
 // Answers that report state.
 
-ghost use Rattle.adapter_server.specs.Answers.{CanStep, Looks, TellsAnswer};
+ghost use Rattle.adapter_server.specs.Answers.{CanDo, CanStep, Looks, TellsAnswer};
 
 use crate::session::Session;
 use crate::task::target_at;
@@ -16,18 +16,28 @@ use std::alloc::Global;
 use std::io::Write;
 use std::mem;
 
+/// Returns whether the outcome of a step of this kind would now be neither `Nothing` nor `WireFull`.
+pub(crate) fn can_step(device: &PlayedAdapter, kind: StepKind) -> bool
+    ensures { CanDo kind result device.now }
+{
+    let works = device.machine.has_work(kind);
+    match kind {
+        StepKind::TxPut => works & device.wire_free,
+        _ => works,
+    }
+}
+
 /// Returns the kinds of steps whose outcome now would be neither `Nothing` nor `WireFull`.
 fn enabled_steps(device: &PlayedAdapter) -> EnabledSteps
     ensures { CanStep device.now result }
 {
-    let machine = &device.machine;
     EnabledSteps {
-        tx_take: machine.has_work(StepKind::TxTake),
-        tx_put: machine.has_work(StepKind::TxPut) & device.wire_free,
-        rx_data: machine.has_work(StepKind::RxData),
-        rx_done: machine.has_work(StepKind::RxDone),
-        eeprom: machine.has_work(StepKind::EepromTick),
-        phy: machine.has_work(StepKind::PhyTick),
+        tx_take: can_step(device, StepKind::TxTake),
+        tx_put: can_step(device, StepKind::TxPut),
+        rx_data: can_step(device, StepKind::RxData),
+        rx_done: can_step(device, StepKind::RxDone),
+        eeprom: can_step(device, StepKind::EepromTick),
+        phy: can_step(device, StepKind::PhyTick),
     }
 }
 

@@ -11,7 +11,8 @@ use std::alloc::{AllocError, Global};
 use step_schedules::{Agenda, Before, Recorder};
 
 impl<'a> Task<'a> {
-    ghost use Rattle.adapter_server.specs.Tasks.{task_agenda, task_moves, task_recorder, task_wanted};
+    ghost use Rattle.adapter_server.specs.Tasks.{number_wanted, task_agenda, task_moves, task_number};
+    ghost use Rattle.adapter_server.specs.Tasks.{task_recorder, task_wanted};
 
     /// If there is a player, the recorder begins the task's access or request. Actions that are noted from now on were
     /// played before this access or request. Does nothing if the task sets the clock. Fails only if memory is refused.
@@ -83,6 +84,18 @@ impl<'a> Task<'a> {
                 device.meet_request(agenda, Before::Request, self.word().as_bytes(), observer);
                 0
             }
+        }
+    }
+
+    /// Returns the number that answers the task `choose`: `number`, which is taken, or `due` if there is no `number`.
+    /// For other tasks, returns `due`.
+    pub(crate) fn take_number(self, number: &mut Option<u32>, due: u32) -> u32
+        ensures number { result ≡ number_wanted self.entry number.old due }
+        ensures taken { number.new ≡ task_number self.entry number.old }
+    {
+        match self {
+            Task::Choose(_) => number.take().unwrap_or(due),
+            _ => due,
         }
     }
 }

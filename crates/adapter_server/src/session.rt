@@ -29,6 +29,8 @@ pub struct Session {
     pub kept: Kept,
     /// The agenda of the player, if there is a player.
     pub agenda: Option<Agenda>,
+    /// The number that answers the next request `choose` in place of the agenda's, if there is one.
+    pub number: Option<u32>,
     /// Whether the log, when it is on, contains the names of the targets in the lines of accesses.
     pub targets: bool,
 }
@@ -85,6 +87,7 @@ impl Session {
             device: self.device.copy()?,
             function: self.function,
             clock: self.clock,
+            number: self.number,
             targets: self.targets,
         })
     }

@@ -1,5 +1,5 @@
 -- What the calls of C do with the adapter of a handle: numbers represent kinds, outcomes and fates (our choice).
-use Rattle.std.specs.Prelude.{◌≡◌, ◌≢◌, ◌↔◌, ◌+◌, ◌++◌, ◌∷◌, [], ℕ, Bool, false, true, IsTrue, List, Option, Some, None}
+use Rattle.std.specs.Prelude.{◌≡◌, ◌≢◌, ◌↔◌, ◌+◌, ◌++◌, ◌∷◌, [], ◌==◌, ◌||◌, ◌^◌, ℕ, Bool, false, true, IsTrue, List, Option, Some, None}
 use Rattle.std.specs.Prelude.{◌&&◌, if◌then◌else◌, is_some, length, nat_le, nat_lt, not, replicate, slice_get}
 use Rattle.rand_core.specs.Pcg32Seed.{pcg32_seed}
 use Rattle.rand_pcg.specs.Pcg.{pcg32_of_seed}
@@ -7,12 +7,15 @@ use Rattle.adapter.specs.State.{AdapterState}
 use Rattle.adapter.specs.model_types.outcome.Outcome.{Outcome}
 use Rattle.adapter.specs.model_types.step.StepKind.{StepKind}
 use Rattle.adapter.specs.model_types.step.StepKind.TheVariants.{EepromTick, PhyTick, RxData, RxDone, TxPut, TxTake}
+use Rattle.access_names.specs.Names.{target_text}
 use Rattle.access_names.specs.Targets.{memory_target_in}
 use Rattle.access_names.specs.declared.target.Target.{Target}
+use Rattle.access_names.specs.declared.target.Target.TheVariants as targets
 use Rattle.adapter.specs.bus_types.event.Access.{Access}
 use Rattle.eeprom.specs.Image.{image_with}
 use Rattle.mdic_phy.specs.declared.phy.Link.{Link}
 use Rattle.rx_engine.specs.declared.arrival.Fate.{Fate}
+use Rattle.nic82540em.specs.Copies.{CopiesFront}
 use Rattle.nic82540em.specs.Numbers.{fate_number, is_receive_share, kind_with, link_with, outcome_number, refused}
 use Rattle.nic82540em.specs.Events.{HearsBetween, no_events, without_first}
 use Rattle.nic82540em.specs.Schedules.{AfterMeeting, after_choice, number_chosen}
@@ -223,6 +226,18 @@ pub record AnswersEvent (old new : KeptEvent) (answer : Bool) (a b : WatchedAdap
   pub taken : answer ≡ true → (slice_get a.events.waiting.items 0 ≡ Some new) × (b ≡ record a { events = without_first a.events })
   -- if no event waited, nothing changes
   pub refused : answer ≡ false → (slice_get a.events.waiting.items 0 ≡ None) × (new ≡ old) × (b ≡ a)
+
+-- the target of an access with this number, if there is one: 1 or 2 for the register at this offset, 3 or 4 for memory at this address
+abbrev pub target_numbered : (before address : ℕ) → WatchedAdapter → Option Target
+target_numbered before address a =
+    if (before == 1) || (before == 2) then (if nat_lt address (2 ^ 32) then Some (targets.Register address) else None)
+    else if (before == 3) || (before == 4) then Some (target_at address a)
+    else None
+
+-- The name of this target is copied to an area, as far as there is room. Without a target, the answer is 0, and the area doesn't change.
+abbrev pub NameTold : Option Target → (old new : List ℕ) → (answer : ℕ) → Type 0
+NameTold (Some target) old new answer = CopiesFront (target_text target) old new answer
+NameTold None old new answer = (answer ≡ 0) × (new ≡ old)
 
 -- the adapter that plays ticks before later accesses if `on` is true, and no ticks if `on` is false
 abbrev pub with_ticks : Bool → WatchedAdapter → WatchedAdapter

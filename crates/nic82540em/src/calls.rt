@@ -22,7 +22,7 @@ use std::alloc::{AllocError, Global};
 use step_schedules::Before;
 
 /// Returns the words of the EEPROM: the image of the options if they have one, or else an image with their address.
-fn image_of(options: &AdapterOptions) -> Image
+pub(crate) fn image_of(options: &AdapterOptions) -> Image
     ensures { result ≡ image_of options.now }
 {
     if options.has_image {

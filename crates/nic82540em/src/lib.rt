@@ -8,9 +8,11 @@
 
 mod accesses;
 mod calls;
+mod copying;
 mod events;
 mod handle;
 mod hearing;
+mod lines;
 mod looking;
 mod nobody;
 mod numbers;
@@ -19,6 +21,7 @@ mod parts;
 mod playing;
 mod possible;
 mod schedules;
+mod server_owner;
 mod watched;
 
 ghost use Rattle.std.specs.Prelude.{◌≡◌, false, true};
@@ -30,8 +33,13 @@ pub use accesses::{
 };
 pub use events::{Events, KeptEvent};
 pub use handle::Nic;
+pub use lines::{
+    ComingLine, ServerHandle, nic82540em_answer, nic82540em_answers, nic82540em_can,
+    nic82540em_close, nic82540em_comes, nic82540em_deviate, nic82540em_serve,
+    nic82540em_server_digest, nic82540em_told,
+};
 pub use looking::{
-    nic82540em_digest, nic82540em_line, nic82540em_peek, nic82540em_possible,
+    nic82540em_digest, nic82540em_line, nic82540em_name, nic82540em_peek, nic82540em_possible,
     nic82540em_state_digest, nic82540em_waiting_received, nic82540em_waiting_transmit,
 };
 use numbers::{is_receive_share, link_with};

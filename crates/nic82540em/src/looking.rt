@@ -4,12 +4,16 @@ ghost use Rattle.std.specs.Prelude.{◌≡◌, false, length, true};
 ghost use Rattle.adapter.specs.Registers.{answer_at};
 ghost use Rattle.adapter.specs.Digests.{digest_of};
 ghost use Rattle.adapter.specs.Machines.{is_asserted};
-ghost use Rattle.nic82540em.specs.Calls.{TellsPossible};
+ghost use Rattle.nic82540em.specs.Calls.{NameTold, TellsPossible, target_numbered};
 ghost use Rattle.nic82540em.specs.Digests.{state_digest_of};
 ghost use Rattle.nic82540em.specs.Handles.{IsSound, OnlyLooks, OnAdapter};
 
+use crate::copying::copy_front;
 use crate::handle::{Nic, on_adapter};
 use crate::possible;
+use crate::watched::WatchedAdapter;
+use access_names::{Target, memory_target};
+use adapter::Adapter;
 use std::hash::{FoldHasher, Hasher};
 
 /// Returns whether the interrupt line is asserted. Returns `false` if the handle holds no adapter.
@@ -88,20 +92,72 @@ pub extern "C" fn nic82540em_digest(nic: &mut Nic) -> u64
     on_adapter!(nic, 0, |adapter| adapter.player.machine.digest())
 }
 
+/// Returns a digest of an adapter's registers, of the frames in its packet buffers, and of its work in progress.
+/// Adapters with the same state have equal digests for each seed.
+#[tactic(auto, unfolding(crate::specs::Digests::state_digest_of))]
+pub(crate) fn state_digest(adapter: &Adapter, seed: u64) -> u64
+    ensures { result ≡ state_digest_of seed adapter.now }
+{
+    let mut hasher = FoldHasher::default();
+    hasher.write_u64(seed);
+    adapter.feed(&mut hasher);
+    hasher.finish()
+}
+
+/// Returns the target of an access with this number: 1 or 2 for the register at this offset, 3 or 4 for memory at this
+/// address. Returns `None` for another number, or an offset above `0xFFFFFFFF`.
+fn target_numbered(adapter: &WatchedAdapter, before: u32, address: u64) -> Option<Target>
+    ensures { result ≡ target_numbered before address adapter.now }
+{
+    match before {
+        1 | 2 => match u32::try_from(address) {
+            Ok(offset) => Some(Target::Register(offset)),
+            Err(_) => None,
+        },
+        3 | 4 => Some(memory_target(&adapter.player.machine, address)),
+        _ => None,
+    }
+}
+
 /// Returns a digest of the adapter's registers, of the frames in its packet buffers, and of its work in progress.
 /// Adapters with the same state have equal digests for each seed. The digest covers neither memory nor what
 /// [`nic82540em_digest`] omits. Returns 0 if the handle holds no adapter.
-#[tactic(auto, unfolding(crate::specs::Digests::state_digest_of))]
 #[unsafe(no_mangle)]
 pub extern "C" fn nic82540em_state_digest(nic: &mut Nic, seed: u64) -> u64
     requires sound { IsSound nic.old }
     ensures value { OnAdapter (OnlyLooks (λ a. result ≡ state_digest_of seed a.player.machine.world.adapter))
         (result ≡ 0) nic.old nic.new }
 {
-    on_adapter!(nic, 0, |adapter| {
-        let mut hasher = FoldHasher::default();
-        hasher.write_u64(seed);
-        adapter.player.machine.adapter().feed(&mut hasher);
-        hasher.finish()
-    })
+    on_adapter!(
+        nic,
+        0,
+        |adapter| state_digest(adapter.player.machine.adapter(), seed)
+    )
+}
+
+/// Stores the name by which schedules name what an access reaches. `before` is the access: 1 or 2 a read or a write of
+/// the register at the offset `address`, 3 or 4 a read or a write of memory at this address. Returns the length of the
+/// name in bytes, and copies the name's beginning to `into`, as far as there is room.
+///
+/// Returns 0, and changes nothing, if `before` is another number, the offset is above `0xFFFFFFFF`, or the handle holds
+/// no adapter.
+#[unsafe(no_mangle)]
+pub extern "C" fn nic82540em_name(
+    nic: &mut Nic,
+    before: u32,
+    address: u64,
+    into: &mut [u8],
+) -> usize
+    requires sound { IsSound nic.old }
+    ensures name { OnAdapter (OnlyLooks (λ a. NameTold (target_numbered before address a) into.old into.new result))
+        ((result ≡ 0) × (into.new ≡ into.old)) nic.old nic.new }
+{
+    on_adapter!(
+        nic,
+        0,
+        |adapter| match target_numbered(adapter, before, address) {
+            Some(target) => copy_front(target.name().as_slice(), into),
+            None => 0,
+        }
+    )
 }

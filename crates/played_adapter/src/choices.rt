@@ -73,7 +73,7 @@ impl PlayedAdapter {
 
     /// Plays a choice, and then reports its action to the observer if the choice did something. If no frame is offered,
     /// an arrival does nothing.
-    pub(crate) fn choose<O: Observer>(&mut self, choice: Choice, observer: &mut O)
+    pub fn choose<O: Observer>(&mut self, choice: Choice, observer: &mut O)
         ensures { Tells O.heard observer.old observer.new (Chosen choice self.old self.new) }
     {
         match choice {
