@@ -3,17 +3,37 @@
 
 ghost use Rattle.command_line.specs.Jobs.{HasBounds};
 
-use pcap_bench::{Job, LineError, line};
+use pcap_bench::{Job, LineError, WriteError, line};
+use program_files::{STANDARD_STREAM, StackShortage, find_stack, is_input_piped};
 use program_jobs::{Fault, run_drive, run_pass, run_scenario, run_serve, run_show};
 use std::env;
 use std::io::ErrorKind;
 use std::process::ExitCode;
 
-/// Returns the words that the program was called with. Fails with `NotUnicode` if a word isn't Unicode. Each other
-/// error counts as refused memory.
+/// Returns whether the words, of which the first is the program's name, ask for `show` and nothing else.
+fn asks_for_show_alone(words: &[String]) -> bool {
+    words.len() == 2 && words[1].as_str() == "show"
+}
+
+/// Adds `-` to the words if they ask for `show` without a trace, and standard input is a pipe.
+fn with_piped_trace(
+    rt: &HostRuntime,
+    mut words: Vec<String>,
+) -> Result<Vec<String>, LineError<'static>> {
+    if asks_for_show_alone(words.as_slice()) && is_input_piped(rt) {
+        let stream = String::from_str(rt.alloc(), STANDARD_STREAM)?;
+        if words.push(stream).is_err() {
+            return Err(LineError::Memory);
+        }
+    }
+    Ok(words)
+}
+
+/// Returns the words that the program was called with, as [`with_piped_trace`] completes them. Fails with `NotUnicode`
+/// if a word isn't Unicode. Each other error counts as refused memory.
 fn words(rt: &HostRuntime) -> Result<Vec<String>, LineError<'static>> {
     match env::args(rt) {
-        Ok(args) => Ok(args.collect(rt.alloc())?),
+        Ok(args) => with_piped_trace(rt, args.collect(rt.alloc())?),
         Err(error) if error.kind() == ErrorKind::InvalidData => Err(LineError::NotUnicode),
         Err(_) => Err(LineError::Memory),
     }
@@ -31,16 +51,44 @@ fn refuse(rt: &HostRuntime, error: &LineError<'_>) -> ExitCode {
     ExitCode::from(error.status())
 }
 
-/// Reports a fault of a job on standard error: its code, and then what explains it, if anything. For `run`, also reports
-/// that existing files in OUTDIR are unchanged, unless a write failed. Each line begins with `nicbench: `. Returns the
-/// fault's exit status, even if standard error accepts nothing.
-fn report(rt: &HostRuntime, job: &Job<'_>, fault: &Fault) -> ExitCode {
+/// Reports a fault on standard error: its code, and then what explains it, if anything. Each line begins with
+/// `nicbench: `. Returns the fault's exit status, even if standard error accepts nothing.
+fn fail(rt: &HostRuntime, fault: &Fault) -> ExitCode {
     let _ = eprintln!(rt; "nicbench: {fault}");
     fault.explain(rt);
+    ExitCode::from(fault.status())
+}
+
+/// Reports a fault of a job as [`fail`] does. For `run`, also reports that existing files in OUTDIR are unchanged,
+/// unless a write failed.
+fn report(rt: &HostRuntime, job: &Job<'_>, fault: &Fault) -> ExitCode {
+    let status = fail(rt, fault);
     if matches!(job, Job::Run(_)) && fault.keeps_old_files() {
         let _ = eprintln!(rt; "nicbench: existing files in OUTDIR are unchanged");
     }
-    ExitCode::from(fault.status())
+    status
+}
+
+/// Returns whether the text of an error is the help that the command `help` asks for. The text for an option, such as
+/// `--help`, is clap's for standard error.
+fn is_help(words: &[String], error: &LineError<'_>) -> bool {
+    let is_shown = match error {
+        LineError::Words(text) => !text.use_stderr(),
+        LineError::Value(_) | LineError::NotUnicode | LineError::Memory => false,
+    };
+    let is_command = match words.get(1) {
+        Some(word) => word.as_str() == "help",
+        None => false,
+    };
+    is_shown && is_command
+}
+
+/// Writes the help that the command `help` asks for to standard output. Returns the exit status.
+fn show_help(rt: &HostRuntime, help: &LineError<'_>) -> ExitCode {
+    match print!(rt; "{help}") {
+        Ok(()) => ExitCode::SUCCESS,
+        Err(_) => fail(rt, &Fault::Write(WriteError::Write)),
+    }
 }
 
 /// Does this job, and reports its fault, if any. Returns the exit status. `words` are the words of the command line
@@ -62,14 +110,25 @@ fn obey(rt: &HostRuntime, words: &[String], job: &Job<'_>) -> ExitCode
     }
 }
 
+/// Reports that there isn't enough stack, as refused memory with its reason. Returns the exit status.
+fn refuse_stack(rt: &HostRuntime, shortage: StackShortage) -> ExitCode {
+    let status = refuse(rt, &LineError::Memory);
+    let _ = eprintln!(rt; "nicbench: {shortage}");
+    status
+}
+
 /// Reads the words that the program was called with, and does the job that they ask for. Returns the exit status.
 fn main(rt: HostRuntime) -> ExitCode {
+    if let Err(shortage) = find_stack(&rt) {
+        return refuse_stack(&rt, shortage);
+    }
     let words = match words(&rt) {
         Ok(words) => words,
         Err(error) => return refuse(&rt, &error),
     };
     match line(rt.alloc(), words.as_slice()) {
         Ok(job) => obey(&rt, words.as_slice(), &job),
+        Err(error) if is_help(words.as_slice(), &error) => show_help(&rt, &error),
         Err(error) => refuse(&rt, &error),
     }
 }

@@ -3,6 +3,7 @@ ghost use Rattle.std.specs.Prelude.{◌≡◌, All, IfOk, length};
 
 use crate::file_error::FileError;
 use crate::late_file::LateFile;
+use crate::limits::most_file_bytes;
 use crate::progress::{ReportingReader, Watched};
 use pcap_trace::{ReadError, ReaderSource, Sink, SliceSource, Trace, WriterSink};
 use std::alloc::{AllocError, Global};
@@ -13,6 +14,9 @@ use std::rt::Files;
 
 /// The path that means standard input, as an input, and standard output, as an output.
 pub const STANDARD_STREAM: &str = "-";
+
+/// The path whose metadata are those of standard input.
+pub const STANDARD_INPUT_FILE: &str = "/dev/stdin";
 
 /// The maximum number of bytes of standard input or a pipe: 1 GiB.
 const MOST_PIPED: u64 = 1 << 30;
@@ -86,6 +90,14 @@ fn open<R: Files + Input + AllocGlobal>(rt: &R, path: &str) -> Result<Opened<R::
     match path {
         STANDARD_STREAM => read_pipe(rt.alloc(), path, rt.reader()),
         _ => open_input(rt, path),
+    }
+}
+
+/// Returns whether standard input is a pipe.
+pub fn is_input_piped<R: Files>(rt: &R) -> bool {
+    match fs::metadata(rt, STANDARD_INPUT_FILE) {
+        Ok(metadata) => metadata.file_type().is_fifo(),
+        Err(_) => false,
     }
 }
 
@@ -189,7 +201,7 @@ pub fn create_file<R: Files + AllocGlobal>(
     path: &str,
 ) -> Result<LateFile<R::File>, FileError> {
     match OpenOptions::new().write(true).create(true).open(rt, path) {
-        Ok(file) => Ok(LateFile::new(file)),
+        Ok(file) => Ok(LateFile::new(file, most_file_bytes(rt))),
         Err(_) => Err(FileError::open(rt.alloc(), path)),
     }
 }

@@ -4,6 +4,7 @@ ghost use Rattle.std.specs.Prelude.{◌≡◌, IfOk};
 use crate::file_error::FileError;
 use crate::files::{FileSink, create_file};
 use crate::late_file::LateFile;
+use crate::limits::most_file_bytes;
 use pcap_trace::{Sink, WriteError, WriterSink};
 use std::alloc::AllocError;
 use std::fs::{self, Metadata, OpenFile, OpenOptions};
@@ -165,9 +166,10 @@ fn open_replaceable<R: Files + AllocGlobal>(
     let Ok(file) = OpenOptions::new().write(true).open(rt, path) else {
         return Err(FileError::open(rt.alloc(), path));
     };
+    let most = most_file_bytes(rt);
     match part_like(rt, path, old) {
-        Ok(Some(part)) => Ok(WholeFile::new(LateFile::new(part.file), Some(part.path))),
-        Ok(None) => Ok(WholeFile::new(LateFile::new(file), None)),
+        Ok(Some(part)) => Ok(WholeFile::new(LateFile::new(part.file, most), Some(part.path))),
+        Ok(None) => Ok(WholeFile::new(LateFile::new(file, most), None)),
         Err(AllocError) => Err(FileError::Memory),
     }
 }
@@ -189,7 +191,10 @@ pub fn create_whole<R: Files + AllocGlobal>(
         _ => None,
     };
     match part {
-        Some(part) => Ok(WholeFile::new(LateFile::new(part.file), Some(part.path))),
+        Some(part) => {
+            let file = LateFile::new(part.file, most_file_bytes(rt));
+            Ok(WholeFile::new(file, Some(part.path)))
+        }
         None => Ok(WholeFile::new(create_file(rt, path)?, None)),
     }
 }

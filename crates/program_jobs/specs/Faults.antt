@@ -13,6 +13,7 @@ use Rattle.program_jobs.specs.declared.fault.Fault.TheVariants as faults
 abbrev pub fault_status : Fault → ℕ
 fault_status (faults.File error) = file_status error
 fault_status (faults.Scenario refusal) = refusal_status refusal
+fault_status (faults.Word refusal word) = refusal_status refusal
 fault_status (faults.Bench error) = bench_status error
 fault_status (faults.Write error) = write_status error
 fault_status (faults.Serve error) = serve_status error

@@ -4,9 +4,9 @@ ghost use Rattle.std.specs.Prelude.{◌<◌};
 use crate::fault::Fault;
 use drive::{DriveCounts, DriveLimits, DriveRings, QtestBus, drive};
 use pcap_bench::{DriveJob, Frames, Sink};
-use program_files::{create, read_file_trace};
+use program_files::{StandardOutput, create, read_file_trace};
 use std::alloc::AllocError;
-use std::io::{self, BufReader};
+use std::io::BufReader;
 
 /// The number of turns in a row without a frame, after which a drive ends ([`DriveLimits`]), if `--idle` isn't given.
 const IDLE: u64 = 1_000;
@@ -42,7 +42,13 @@ fn drive_adapter<S: Sink>(
     let Ok(input) = BufReader::new(rt.alloc(), rt.reader()) else {
         return Err(Fault::from(AllocError));
     };
-    let mut bus = QtestBus::new(rt.alloc(), input, io::writer(rt), job.registers, job.memory);
+    let mut bus = QtestBus::new(
+        rt.alloc(),
+        input,
+        StandardOutput::new(rt),
+        job.registers,
+        job.memory,
+    );
     match drive(
         rt.alloc(),
         &mut bus,

@@ -3,60 +3,10 @@ ghost use Rattle.std.specs.Prelude.{◌≡◌, IfOk, IfSome};
 
 use crate::fault::Fault;
 use crate::output_names::OutputNames;
+use crate::run_files::{inputs, is_among, is_in_folder};
 use pcap_bench::{RunJob, Scenario, Sink};
-use program_files::{FileSink, STANDARD_STREAM, create, path_in};
-use std::alloc::AllocError;
-use std::fs::{self, File};
-use std::os::unix::fs::MetadataExt;
-
-/// The path whose metadata are those of standard input.
-const STANDARD_INPUT_FILE: &str = "/dev/stdin";
-
-/// Returns whether the path of an output and another path lead to the same plain file: its device and its inode are
-/// equal. Returns `false` if a path leads to no file. As the other path, `-` means standard input.
-fn is_same_file(rt: &HostRuntime, output: &str, other: &str) -> bool {
-    let other = match other {
-        STANDARD_STREAM => STANDARD_INPUT_FILE,
-        _ => other,
-    };
-    let found = fs::metadata(rt, output);
-    let Ok(other) = fs::metadata(rt, other) else {
-        return false;
-    };
-    match found {
-        Ok(output) => {
-            output.is_file() && output.dev() == other.dev() && output.ino() == other.ino()
-        }
-        Err(_) => false,
-    }
-}
-
-/// Returns whether a path leads to a plain file that the run reads: SCENARIO, or one of these traces.
-fn is_input(rt: &HostRuntime, path: &str, scenario: &str, traces: &[String]) -> bool {
-    for trace in traces {
-        if is_same_file(rt, path, trace.as_str()) {
-            return true;
-        }
-    }
-    is_same_file(rt, path, scenario)
-}
-
-/// Returns whether a path leads to one of the plain files with these names in a folder. Fails only if memory is
-/// refused.
-fn is_in_folder(
-    rt: &HostRuntime,
-    path: &str,
-    directory: &str,
-    names: &[String],
-) -> Result<bool, AllocError> {
-    for name in names {
-        let other = path_in(rt.alloc(), directory, name.as_str())?;
-        if is_same_file(rt, path, other.as_str()) {
-            return Ok(true);
-        }
-    }
-    Ok(false)
-}
+use program_files::{FileSink, STANDARD_STREAM, create};
+use std::fs::File;
 
 /// Opens or creates the file at a path as a sink, whose count of failures is 0. An existing file keeps its bytes until
 /// the first new byte is written. Fails (E73) if the path leads to a file that the run reads, or writes in OUTDIR; in
@@ -70,14 +20,12 @@ fn create_unused(
 ) -> Result<FileSink<File>, Fault>
     ensures { IfOk result (λ sink. ⟦<FileSink<File> as Sink>⟧.failures sink ≡ 0) }
 {
-    if is_input(rt, path, job.scenario, scenario.trace_names()) {
+    if is_among(rt, path, inputs(rt, job, scenario)?.as_slice()) {
         return Err(Fault::used(rt.alloc(), path));
     }
-    // The file is created before the checks, so that they find a new file in OUTDIR, too.
+    // The file is created before the check, so that it finds a new file in OUTDIR, too.
     let sink = create(rt, path)?;
-    if is_in_folder(rt, path, job.directory, names.sockets.as_slice())?
-        || is_in_folder(rt, path, job.directory, names.wires.as_slice())?
-    {
+    if is_in_folder(rt, path, job, names)? {
         return Err(Fault::used(rt.alloc(), path));
     }
     Ok(sink)

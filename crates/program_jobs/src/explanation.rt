@@ -14,9 +14,9 @@ fn input_advice(error: ReadError) -> &'static str {
         ReadError::Header =>
             "IN has fewer than 24 bytes, so it isn't a trace. Name another file, or check the program that writes into \
             the pipe",
-        ReadError::Magic => "IN isn't a pcap file. Convert a pcapng file: editcap -F pcap IN OUT",
+        ReadError::Magic => "IN isn't a pcap file. Convert a pcapng file: tools/to_pcap IN OUT",
         ReadError::Version =>
-            "IN isn't a pcap file of version 2.4. Convert it: editcap -F pcap IN OUT",
+            "IN isn't a pcap file of version 2.4. Convert it: tools/to_pcap IN OUT",
         ReadError::LinkType =>
             "IN isn't a trace of Ethernet frames. Capture it at an Ethernet interface",
         ReadError::Record =>
@@ -35,13 +35,17 @@ const OPEN_ADVICE: &str =
 
 /// The advice for an output that is also another file of a run. `FILE` is a placeholder for its path.
 const SAME_FILE_ADVICE: &str =
-    "FILE is also SCENARIO, a trace that the run feeds, or a file that it writes in OUTDIR. Name another for --events";
+    "FILE is also SCENARIO, a trace that the run feeds, or another file that it writes. Name another for --events, or \
+    another OUTDIR";
+
+/// The explanation of a word that no kind of line begins with. `WORD` is a placeholder for it.
+const WORD_TEXT: &str = "the word is WORD";
 
 /// The explanation of a schedule for other options.
 const OTHER_OPTIONS: &str = "the schedule is for an adapter with other options: see its first line";
 
-/// Returns a text with a path in place of the placeholder. The path is in quotation marks, and its control characters
-/// are escaped, so that the text has one line.
+/// Returns a text with a path or a word in place of the placeholder. It is in quotation marks, and its control
+/// characters are escaped, so that the text has one line.
 fn with_path(
     alloc: Global,
     advice: &str,
@@ -79,12 +83,13 @@ fn explain_file(rt: &HostRuntime, error: &FileError) {
 
 impl Fault {
     /// Prints on standard error what explains the fault, if there is more to print than the message: the path of a
-    /// file, with what a user can do, the reason why a text isn't a schedule, the counts of a drive, or the deviations
+    /// file, with what a user can do, a wrong word of a scenario, the reason why a text isn't a schedule, the counts of a drive, or the deviations
     /// that weren't met. Each line begins with `nicbench: `. Prints no path if there is no memory for the line.
     pub fn explain(&self, rt: &HostRuntime) {
         match self {
             Fault::File(error) => explain_file(rt, error),
             Fault::SameFile(path) => print_with_path(rt, SAME_FILE_ADVICE, "FILE", path),
+            Fault::Word(_, word) => print_with_path(rt, WORD_TEXT, "WORD", word),
             Fault::Fewer(counts) => {
                 let _ = eprintln!(rt; "nicbench: {counts}");
             }

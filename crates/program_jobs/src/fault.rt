@@ -1,12 +1,15 @@
 //! Why the program ended.
 ghost use Rattle.std.specs.Prelude.{◌≡◌};
 ghost use Rattle.program_jobs.specs.Faults.{IsUsed, fault_status};
+ghost use Rattle.scenario.specs.Statuses.{refusal_status};
 ghost use Rattle.program_jobs.specs.declared.fault.Fault.TheVariants as faults;
 
+use crate::first_word::first_word;
 use adapter_server::ServeError;
 use drive::{BusFault, DriveCounts, DriveError};
 use pcap_bench::{BenchError, Refusal, WriteError};
 use program_files::FileError;
+use scenario::Fault as LineFault;
 use std::alloc::{AllocError, Global};
 use thiserror::Error;
 
@@ -19,6 +22,9 @@ pub enum Fault {
     /// SCENARIO is invalid.
     #[error(transparent)]
     Scenario(Refusal),
+    /// SCENARIO is invalid: the text is the first word of a line, which no kind of line begins with.
+    #[error("{0}")]
+    Word(Refusal, String),
     /// The frames of a trace couldn't be passed, or a scenario couldn't be played.
     #[error(transparent)]
     Bench(BenchError),
@@ -53,6 +59,24 @@ pub enum Fault {
 }
 
 impl Fault {
+    /// Returns the fault of a scenario with this text, which was refused. If a line begins with a wrong word, the fault
+    /// contains the word, unless there is no memory for it.
+    pub(crate) fn refused(alloc: Global, text: &[u8], refusal: Refusal) -> Fault
+        ensures { fault_status result ≡ refusal_status refusal }
+    {
+        let Refusal::Line {
+            line,
+            fault: LineFault::Word,
+        } = refusal
+        else {
+            return Fault::Scenario(refusal);
+        };
+        match first_word(alloc, text, line) {
+            Ok(Some(word)) => Fault::Word(refusal, word),
+            Ok(None) | Err(_) => Fault::Scenario(refusal),
+        }
+    }
+
     /// Returns the fault of an output that is also another file of a run, at this path. The fault is `Memory` if there
     /// is no memory for the path.
     pub(crate) fn used(alloc: Global, path: &str) -> Fault
@@ -71,7 +95,7 @@ impl Fault {
     {
         match self {
             Fault::File(error) => error.status(),
-            Fault::Scenario(refusal) => refusal.status(),
+            Fault::Scenario(refusal) | Fault::Word(refusal, _) => refusal.status(),
             Fault::Bench(error) => error.status(),
             Fault::Write(error) => error.status(),
             Fault::Serve(error) => error.status(),

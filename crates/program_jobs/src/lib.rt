@@ -5,8 +5,10 @@ mod drive_job;
 mod events_file;
 mod explanation;
 mod fault;
+mod first_word;
 mod output_names;
 mod run;
+mod run_files;
 mod serve;
 mod trace_jobs;
 

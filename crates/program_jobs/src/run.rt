@@ -5,20 +5,24 @@ ghost use Rattle.scenario_bench.specs.FileNames.{sockets_in, wires_in};
 use crate::events_file::create_events_sink;
 use crate::fault::Fault;
 use crate::output_names::{OutputNames, output_names};
+use crate::run_files::find_shared;
 use crate::trace_jobs::unit_of;
 use pcap_bench::{
     Refusals, RunJob, Scenario, Sink, Summary, Trace, WriteError, WriterSink, bench_with,
     print_summary,
 };
 use program_files::{
-    STANDARD_STREAM, StandardError, create_all, find_folder, read_bytes, read_traces, report_play,
+    STANDARD_STREAM, StandardError, StandardOutput, create_all, find_folder, read_bytes,
+    read_traces, report_play,
 };
-use std::io;
 
 /// Reads and parses the scenario at this path. Fails if it can't be read, or if a line is invalid.
 fn read_scenario(rt: &HostRuntime, path: &str) -> Result<Scenario, Fault> {
     let text = read_bytes(rt, path)?;
-    Ok(Scenario::read(rt.alloc(), text.as_slice())?)
+    match Scenario::read(rt.alloc(), text.as_slice()) {
+        Ok(scenario) => Ok(scenario),
+        Err(refusal) => Err(Fault::refused(rt.alloc(), text.as_slice(), refusal)),
+    }
 }
 
 /// Plays a scenario, which feeds `traces`. Then writes the trace of each socket, and of each wire that has a sink, to
@@ -58,8 +62,9 @@ fn play_to_sinks<W: Sink>(
 }
 
 /// Opens the files with these names in OUTDIR, plays a scenario, which feeds `traces`, and writes the files. The files
-/// of sockets are written before those of wires. Fails if OUTDIR doesn't exist. There must be one trace for each trace
-/// that the scenario feeds, one name for each socket, and at most one for each wire.
+/// of sockets are written before those of wires. Fails if OUTDIR doesn't exist, or if a file is also another file of the
+/// run. There must be one trace for each trace that the scenario feeds, one name for each socket, and at most one for
+/// each wire.
 fn play(
     rt: &HostRuntime,
     job: &RunJob<'_>,
@@ -74,6 +79,7 @@ fn play(
     find_folder(rt, job.directory)?;
     let mut sinks = create_all(rt, job.directory, names.sockets.as_slice())?;
     let mut wire_sinks = create_all(rt, job.directory, names.wires.as_slice())?;
+    find_shared(rt, job, scenario, names)?;
     play_to_sinks(
         rt,
         job,
@@ -103,7 +109,7 @@ fn warn(rt: &HostRuntime, summary: &Summary) {
 /// failed write to standard error isn't an error.
 fn print_to_standard_output(rt: &HostRuntime, summary: &Summary) -> Result<(), Fault> {
     if let Some(events) = &summary.events {
-        events.write(&mut WriterSink::new(io::writer(rt)))?;
+        events.write(&mut WriterSink::new(StandardOutput::new(rt)))?;
     }
     let _ = print_summary(summary, &mut WriterSink::new(StandardError::new(rt)));
     warn(rt, summary);
@@ -131,7 +137,7 @@ fn print_with_file<W: Sink>(
     requires { IfSome file.old (λ sink. W.failures sink < u64.MAX) }
 {
     write_events(summary, file)?;
-    print_summary(summary, &mut WriterSink::new(io::writer(rt)))?;
+    print_summary(summary, &mut WriterSink::new(StandardOutput::new(rt)))?;
     warn(rt, summary);
     Ok(())
 }

@@ -7,10 +7,10 @@ use adapter_server::{ServeOptions, serve};
 use eeprom::{Image, WORDS};
 use mdic_phy::Link;
 use pcap_bench::{ServeImage, ServeJob, ServeLink};
-use program_files::{LateFile, open_record, read_front, read_player, store};
+use program_files::{LateFile, StandardOutput, open_record, read_front, read_player, store};
 use std::alloc::AllocError;
 use std::fs::File;
-use std::io::{self, BufReader, BufWriter};
+use std::io::{BufReader, BufWriter};
 use step_schedules::Player;
 
 /// The number of bytes of a file with the words of an EEPROM.
@@ -82,7 +82,7 @@ fn serve_input(
     let Ok(input) = BufReader::new(alloc, rt.reader()) else {
         return Err(Fault::from(AllocError));
     };
-    let Ok(mut output) = BufWriter::new(alloc, io::writer(rt)) else {
+    let Ok(mut output) = BufWriter::new(alloc, StandardOutput::new(rt)) else {
         return Err(Fault::from(AllocError));
     };
     match serve(alloc, options, player, input, &mut output) {

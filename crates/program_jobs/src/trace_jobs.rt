@@ -3,8 +3,7 @@ ghost use Rattle.receive_lane.specs.Options.{HasVlanNumber};
 
 use crate::fault::Fault;
 use pcap_bench::{PassJob, ShowJob, Trace, Unit, WriterSink, pass, print_pass, show};
-use program_files::{STANDARD_STREAM, StandardError, create_whole, read_trace};
-use std::io;
+use program_files::{STANDARD_STREAM, StandardError, StandardOutput, create_whole, read_trace};
 
 /// Returns the unit of the times in written traces: nanoseconds if `nanos` is true (`--nanos`), and otherwise
 /// microseconds.
@@ -28,7 +27,12 @@ fn pass_to_file(rt: &HostRuntime, job: &PassJob<'_>, trace: &Trace) -> Result<()
         }
     };
     file.finish(rt, job.output)?;
-    print_pass(trace, &counts, &mut WriterSink::new(io::writer(rt))).map_err(Fault::from)
+    print_pass(
+        trace,
+        &counts,
+        &mut WriterSink::new(StandardOutput::new(rt)),
+    )
+    .map_err(Fault::from)
 }
 
 /// Writes to standard output the frames of a trace that pass, and to standard error the line of counts. A failed write
@@ -37,7 +41,7 @@ fn pass_to_standard_output(rt: &HostRuntime, job: &PassJob<'_>, trace: &Trace) -
     requires { HasVlanNumber job.now.filter }
 {
     let unit = unit_of(job.nanos);
-    let mut sink = WriterSink::new(io::writer(rt));
+    let mut sink = WriterSink::new(StandardOutput::new(rt));
     let counts = pass(rt.alloc(), trace, &job.filter, unit, &mut sink)?;
     let _ = print_pass(trace, &counts, &mut WriterSink::new(StandardError::new(rt)));
     Ok(())
@@ -68,5 +72,5 @@ pub fn run_pass(rt: &HostRuntime, job: &PassJob<'_>) -> Result<(), Fault>
 /// The trace can't be read, or standard output can't be written.
 pub fn run_show(rt: &HostRuntime, job: &ShowJob<'_>) -> Result<(), Fault> {
     let trace = read_trace(rt, job.trace)?;
-    show(&trace, &mut WriterSink::new(io::writer(rt))).map_err(Fault::from)
+    show(&trace, &mut WriterSink::new(StandardOutput::new(rt))).map_err(Fault::from)
 }
