@@ -1,5 +1,5 @@
-//! Tests of the number of steps of a drain, and that a drain allocates no memory. Tests of the built program check
-//! which frames a drain returns, and in which order.
+//! Tests of the number of steps of a drain, of the order of its sockets, and that a drain allocates no memory. Tests of
+//! the built program check which frames a drain returns.
 
 use crate::outlet::Taken;
 use crate::texts::{events_of, scenario_in};
@@ -42,13 +42,30 @@ ffffffffffffffffffffffffffffffffffffffffffffffffffffffffffff";
 /// buffer of host `b`.
 const COMES: &str = "\ntick txtake:a\ntick txput:a\ntick deliver:b\n";
 
-/// The lines that are played after those of the hosts, and the number of steps of a drain of host `b` after all lines.
-const ROWS: [(&[&str], u64); 6] = [
-    (&[ALL, BROUGHT, BROUGHT, BROUGHT], 12),
+/// The lines that are played after those of the hosts. Then the number of steps of a drain of host `b` after all lines,
+/// and the sockets whose frames it returns, in order: a waiting frame of the first socket comes before one of the
+/// second.
+const ROWS: [(&[&str], u64, &[usize]); 8] = [
+    // A host that holds nothing takes no step, in particular no interrupt.
+    (&[ALL], 0, &[]),
+    (&[ALL, BROUGHT, BROUGHT, BROUGHT], 12, &[0, 0, 0]),
     // One of these steps is an interrupt for TXDW, which the put of the frame of host `b` recorded.
-    (&[ALL, BROUGHT, BROUGHT, BROUGHT, SENT], 13),
-    (&[BROUGHT], 3),
-    (&[TWO, BROUGHT, "tick rxdata:b\n", BROUGHT, ASKED], 11),
+    (&[ALL, BROUGHT, BROUGHT, BROUGHT, SENT], 13, &[0, 0, 0]),
+    (&[BROUGHT], 3, &[]),
+    (
+        &[TWO, BROUGHT, "tick rxdata:b\n", BROUGHT, ASKED],
+        11,
+        &[1, 1, 0],
+    ),
+    // The frames of one interrupt fill all outstanding slots, and two frames are in the packet buffer.
+    (
+        &[
+            ALL, BROUGHT, FINISHED, BROUGHT, FINISHED, BROUGHT, FINISHED, BROUGHT, FINISHED,
+            BROUGHT, FINISHED, BROUGHT, FINISHED, BROUGHT, FINISHED, BROUGHT, BROUGHT,
+        ],
+        16,
+        &[0; 9],
+    ),
     // A frame is in each queue, the piece of one frame is in progress, and one frame is in the packet buffer.
     (
         &[
@@ -63,6 +80,7 @@ const ROWS: [(&[&str], u64); 6] = [
             ASKED,
         ],
         9,
+        &[0, 1, 1, 0],
     ),
     // Six pieces, each moved and finished, with an interrupt after RXDMT0 and one after RXT0, and a recv.
     (
@@ -71,6 +89,7 @@ const ROWS: [(&[&str], u64); 6] = [
             FF, FF, FF, COMES,
         ],
         15,
+        &[0],
     ),
 ];
 
@@ -83,12 +102,27 @@ fn joined(alloc: Global, lines: &[&str]) -> Option<String> {
     Some(text)
 }
 
-/// Drains a host, and checks the number of steps. Returns `None` if the room for the frames can't be allocated.
-fn drained(rt: &impl Abort, alloc: Global, lan: &mut Lan, host: usize, steps: u64) -> Option<()> {
+/// Drains a host, and checks the number of steps, and the sockets of the frames. Returns `None` if the room for the
+/// frames can't be allocated.
+fn drained(
+    rt: &impl Abort,
+    alloc: Global,
+    lan: &mut Lan,
+    host: usize,
+    steps: u64,
+    sockets: &[usize],
+) -> Option<()> {
     let mut taken = Taken::with_room(alloc, lan.drain_room(host)).ok()?;
     assert!(rt;
         lan.drain(host, &mut taken) == steps,
         "{steps} steps of host {host}"
+    );
+    assert!(rt;
+        taken
+            .list
+            .iter()
+            .map(|one| one.socket)
+            .eq(sockets.iter().copied())
     );
     assert!(rt; lan.counts(host).is_none() == (lan.log(host).is_empty() && host == 9));
     Some(())
@@ -112,12 +146,12 @@ fn played(rt: &impl Abort, alloc: Global, lines: &[&str]) -> Option<Lan> {
 #[test]
 fn drains_take_these_steps_and_no_memory(rt: HostRuntime) {
     let alloc = rt.alloc();
-    for (lines, steps) in ROWS {
+    for (lines, steps, sockets) in ROWS {
         let Some(mut lan) = played(&rt, alloc, lines) else {
             return;
         };
-        for (host, steps) in [(1, steps), (1, 0), (9, 0)] {
-            if drained(&rt, alloc, &mut lan, host, steps).is_none() {
+        for (host, steps, sockets) in [(1, steps, sockets), (1, 0, &[]), (9, 0, &[])] {
+            if drained(&rt, alloc, &mut lan, host, steps, sockets).is_none() {
                 return;
             }
         }
