@@ -14,11 +14,17 @@ import shutil
 import subprocess
 import sys
 
-from harness import TOP, Ended, Program, test_all, words_of_script
+from harness import TOP, Ended, Program, not_run, test_all, words_of_script
+from page_script import logic
+from explorer_builds import builds, lies
+from explorer_devices import check_devices
+from explorer_draws import by_priorities
 from explorer_enumerated import Enumerated, build_enumerator, enumerated
-from explorer_pages import check_lab, check_pages
-from explorer_races import calls, endless, hooks, passes, schedules
+from explorer_lab import course
+from explorer_pages import check_html, check_lab, check_pages, check_races
+from explorer_races import calls, endless, hooks, kept, passes, schedules, untold
 from explorer_results import RECEIVES, check_results
+from explorer_search import searching
 
 EXPLORER, EXAMPLES = os.path.join(TOP, "bindings", "c", "explore"), os.path.join(TOP, "examples", "explore")
 LIMIT = 3600
@@ -28,7 +34,7 @@ WARNINGS = ["-std=gnu11", "-Wall", "-Wextra", "-Werror"]
 # For tests of stages.c, how many schedules have exactly 1, 2, .. deviations. The enumerator (explorer/enumerate.c)
 # counts all with one deviation again in the part `counts`. It counted those of two deviations of `stages` and `offers`.
 STAGES = 600, 188_346, 40_447_801, 6_607_198_528
-OFFERS, EXCHANGE, CUTS, HELD = (138, 10_218), 310, 276, 702
+OFFERS, EXCHANGE, CUTS, HELD = (138, 10_218), 310, 336, 702
 # For each bug, how many schedules with up to one and with up to two deviations fail. The enumerator counts those with
 # one.
 FAILING = ("late", 3, 149), ("freed", 139, 54_230)
@@ -44,9 +50,9 @@ RIGHT = "right", "masks", "pool"
 # The tests of which every schedule is searched, each with its number of schedules
 EVERY = {"exchange:right": "1.31e+59", "exchange:masks": "1.79e+61", "exchange:pool": "1.31e+59",
          "offers:right": "2.67e+102", "offers:masks": "4.21e+109", "offers:pool": "2.67e+102", "right": "2.65e+111",
-         "masks": "1.13e+117", "pool": "2.65e+111", "cuts:right": "5.44e+64", "cuts:masks": "3.93e+67",
-         "cuts:pool": "5.44e+64", "2exchange:right": "3.67e+118",
-         "2cuts:right": "3.62e+129"}
+         "masks": "1.13e+117", "pool": "2.65e+111", "cuts:right": "5.73e+67", "cuts:masks": "2.62e+70",
+         "cuts:pool": "5.73e+67", "2exchange:right": "3.67e+118",
+         "2cuts:right": "3.92e+135"}
 # A test that ends by a signal if a frame is finished between the two reads of its status
 ENDS = """
 #include <nic82540em_explore.h>
@@ -249,18 +255,6 @@ def all_that_fail(bench):
     bench.check("all: seeds", (len(seeds), count > 10), (count, True))
 
 
-def by_priorities(bench):
-    """PCT finds races of depth 2, and no fault of the right driver. The printed bound of the probability is 1 divided
-    by the product of actors (4) and events.
-    """
-    for name in ("late", "freed"):
-        status, out, _ = bench.run(bench.stages, name, "--pct", "2")
-        events, bound = map(int, re.search(r"^PCT, depth 2: (\d+) events, .* at least 1/(\d+)$", out, re.M).groups())
-        bench.check(f"pct: {name}", (status, bound), (FOUND, 4 * events))
-    status, out, _ = bench.run(bench.stages, "right", "--pct", "3", "--runs", "300")
-    bench.check("pct: right", (status, "\nno run fails\n" in out), (PASSES, True))
-
-
 def races(bench):
     """With --pipe, tools/races plays tests of the explorer: `late` fails with the same schedule, and is shown in a
     chart. The right driver passes.
@@ -291,6 +285,10 @@ def drawn(bench):
                                        r"fails\n", out))), (NOT_RUN, True))
     for name in RIGHT:
         bench.check(f"drawn: {name}", bench.run(bench.stages, name, "--runs", "300")[::2], (PASSES, ""))
+    test = bench.build("passes", os.path.join(TOP, "tests", "explorer", "passes.c"))
+    words = "line", "wrong", "--holds", "--all", "--runs", "1", "--json"
+    results = {json.loads(bench.run(test, *words, "--seed", str(seed))[1])["result"] for seed in range(1, 200)}
+    bench.check("drawn: with held steps, each is repeated", results, {"passes", "fails", "nothing"})
 
 
 def left_behind(bench):
@@ -455,8 +453,19 @@ def results(bench):
 
 def pages(bench):
     """Pages of runs from the explorer's log (explorer_pages.py)."""
+    if not logic():
+        not_run("pages", "there is neither Node.js nor Chromium")
+        return
     check_pages(bench, bench.stages)
+    races = bench.build("page_races", os.path.join(TOP, "tests", "explorer", "page_races.c"))
+    check_races(bench, races)
+    check_html(bench, races)
     check_lab(bench, os.path.join(TOP, "examples", "lab", "grade"), os.path.join(bench.folder, "nic"))
+
+
+def devices(bench):
+    """Devices of a test's own (explorer_devices.py)."""
+    check_devices(bench, lambda name, sources: bench.build(name, *sources))
 
 
 def make(folder):
@@ -468,7 +477,8 @@ def make(folder):
     return bench
 
 
-PARTS = (counts, passes, calls, hooks, schedules, endless, enumerated, bugs, all_that_fail, by_priorities, races, drawn,
-         logs, arguments, left_behind, results, pages, pointers, rust, lab, every)
+PARTS = (counts, searching, passes, calls, kept, builds, lies, hooks, untold, schedules, endless, enumerated, bugs,
+         all_that_fail, by_priorities, races, drawn, logs, arguments, left_behind, results, pages, pointers, devices,
+         rust, lab, course, every)
 
 test_all(make, PARTS)

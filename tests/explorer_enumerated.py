@@ -13,7 +13,7 @@ from harness import TOP
 
 SOURCES = os.path.join(TOP, "tests", "explorer")
 NEVER = "99"
-SEEDS = 24
+SEEDS = 40
 SEARCHES = ["every"], ["1"], ["2"], ["2", "--holds"]
 
 

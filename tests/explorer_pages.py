@@ -4,13 +4,14 @@ The same test, played by the finder through pipes, leads to the same reasons, an
 """
 
 import os
+import re
 import sys
-from html import escape
 
+from finder.page.from_explorer import of_text
 from finder.page.log import log_in
-from finder.page.reasons import findings, reasons
-from finder.page.state import State
+from finder.page.write import template
 from harness import TOP, text_of
+from page_script import logic
 
 PAGE = [sys.executable, "-S", "-E", os.path.join(TOP, "tools", "race_page")]
 # For each driver of stages.c, a schedule with one deviation that fails, and the heading of its race in docs/RACES.md.
@@ -31,6 +32,49 @@ LAB = {1: "A full ring looks empty", 2: "A frame is finished while the handler r
        7: "The head has passed a frame that isn't sent", 8: "A slot is done before it is offered"}
 
 
+# The races of explorer/page_races.c: the heading, and whether the driver fails by itself. Of the others, each schedule
+# of one deviation that fails has this reason, and no other red note.
+RACES = {"buffer": ("A descriptor is written back between two loads of it", False),
+         "length": ("A descriptor is written back between two loads of it", False),
+         "lap": ("A slot is used before its descriptor is stored", False),
+         "rdt": ("A slot is used before its descriptor is stored", False),
+         "kept": ("A frame is written to a buffer that is still read", False),
+         "nested": ("The handler cuts in on a send", False),
+         "late": ("A frame is finished while the handler runs", False),
+         "head": ("The head has passed a slot that is in progress", False),
+         "tdt": ("A frame is taken before it is stored", False),
+         "full": ("A full ring looks empty", True), "held": ("All buffers are held", True),
+         "dd": ("A slot is done before it is offered", True), "part": ("A frame spans several descriptors", True),
+         "ics": ("The handler wakes itself", True)}
+# Of the run without deviations, these accesses and requests get each of these deviations.
+FIRST, STEPS = 140, ("tx", "rx", "txtake", "rxdata", "irq")
+
+
+# A test that ends by a signal if its frame is finished before the access to STATUS
+ABORTS = """
+#include <nic82540em_explore.h>
+#include <stdio.h>
+#include <stdlib.h>
+static const char *test(void *word)
+{
+    static const uint8_t frame[60] = { 255, 255, 255, 255, 255, 255 };
+    uint64_t descriptor[2] = { 0x800, 0 };
+    (void)word;
+    puts("</script>");
+    x_write(NIC_RDLEN, 128);
+    x_store(0, descriptor, 16);
+    x_write(NIC_RDT, 1);
+    x_write(NIC_RCTL, NIC_RCTL_EN | NIC_RCTL_BAM);
+    x_arrive(frame, sizeof frame);
+    x_read(NIC_STATUS);
+    if (x_line() || x_read(NIC_ICR))
+        abort();
+    return 0;
+}
+int main(int count, char **words) { return nic82540em_explore(count, words, test, 0); }
+"""
+
+
 def play(bench, command, schedule, name):
     """The log that tools/race_page stores of a test with this schedule, after the checks of its page and its states."""
     bench.put("page.txt", f"{schedule}\n".encode())
@@ -41,10 +85,7 @@ def play(bench, command, schedule, name):
     bench.check(f"pages: {name}: its fault", (log.run.fault is not None, log.other.fault if log.other else None),
                 (True, None))
     for run in filter(None, (log.run, log.other)):
-        state = State()
-        for step in run.steps:
-            state.play(step)
-        bench.check(f"pages: {name}: states", state.wrong, [])
+        bench.check(f"pages: {name}: states", logic().wrong(run), [])
     return log
 
 
@@ -52,9 +93,8 @@ def check_pages(bench, stages):
     """The pages of CASES, of a driver without a bug, and of the lab."""
     for name, schedule, heading in CASES:
         log = play(bench, [stages, name], schedule, name)
-        found = reasons(log.run, log.other)
-        bench.check(f"pages: {name}: why", (found[0].section if found else None), heading)
-        bench.check(f"pages: {name}: its page has it", escape(heading) in bench.get("page.html").decode(), True)
+        found = logic().reasons(log.run, log.other)
+        bench.check(f"pages: {name}: why", (found[0]["section"] if found else None), heading)
         bench.check(f"pages: {name}: RACES has it", f"\n## {heading}\n" in text_of("docs", "RACES.md"), True)
         bench.check(f"pages: {name}: the deviation", sum(step.is_deviation for step in log.run.steps),
                     int("hold" not in schedule))
@@ -64,8 +104,106 @@ def check_pages(bench, stages):
         bench.check(f"pages: {name}", (status, errors), (0, ""))
         ran = bench.run(*PAGE, "--json", "right.json", "right.log")
         bench.check(f"pages: {name}: its log", ran, (0, "", ""))
-        found = findings(log_in(bench.get("right.json").decode()).run)
-        bench.check(f"pages: {name}: no rule finds anything", [one for one in found if one.kind != "quiet"], [])
+        found = logic().kinds(log_in(bench.get("right.json").decode()).run)
+        bench.check(f"pages: {name}: no rule finds anything", found, [])
+
+
+def log_of_page(text):
+    """The log in a page."""
+    return log_in(re.search('<script type="application/json" id=data>(.*?)</script>', text, re.S)[1])
+
+
+def places_of(run):
+    """The places of accesses and requests, as lines of schedules name them."""
+    for step in run.steps:
+        if step.place and step.is_access():
+            yield f"{step.place} {{}} before {step.action} {step.name}"
+        elif step.place:
+            yield f"{step.place} {{}} before {'arrive' if step.action == 'arrive' else step.outcome.split(':')[0]}"
+
+
+def failing(bench, command, lines):
+    """The logs of the schedules of one line that fail."""
+    for line in lines:
+        bench.put("one.txt", f"{line}\n".encode())
+        status, out, errors = bench.run(*command, "--replay", bench.path("one.txt"), "--log")
+        if errors or "at this place, the test makes" in out:
+            bench.check(f"pages: {command[1:]}: {line}", (out, errors), ("", ""))
+        elif status:
+            yield of_text(out, "one", (line,))
+
+
+def check_races(bench, program):
+    """Each schedule of one deviation that fails has the reason of its race. Drivers without a race have none."""
+    for name, (heading, is_alone) in RACES.items():
+        status, out, _ = bench.run(program, name, "--replay", os.devnull, "--log")
+        run = of_text(out, "without deviations")
+        bench.check(f"pages: {name}: without deviations", (status, logic().wrong(run)), (int(is_alone), []))
+        lines = [line.format(step) for line in list(places_of(run))[:FIRST] for step in STEPS]
+        found = [run] if is_alone else list(failing(bench, [program, name], lines))
+        bench.holds(f"pages: {name}: some schedules fail", bool(found))
+        for one in found:
+            told = logic().reasons(one, None if is_alone else run)
+            wrong = logic().wrong(one), [it["kind"] for it in told if it.get("isHint")]
+            first = {it["section"] for it in told if not it.get("isLater")}
+            bench.check(f"pages: {name}: {one.schedule}", (wrong, first), (([], []), {heading}))
+    for name in ("right", "lap-right", "kept-right", "nested-right"):
+        run = of_text(bench.run(program, name, "--replay", os.devnull, "--log")[1], "without deviations")
+        bench.check(f"pages: {name}: no rule finds anything", (run.fault, logic().kinds(run)), (None, []))
+
+
+def plain(step):
+    """A step without what only the explorer's page has: the frames that arrive, and bytes after the first 16."""
+    is_frame = step.action == "arrive"
+    data = None if is_frame or step.data is None else step.data[:16]
+    return step._replace(data=data, size=0 if is_frame else step.size)
+
+
+def check_html(bench, program):
+    """With --html, the explorer stores the page that tools/race_page makes of its log, after a search and a replay.
+    Without a run that fails, it stores none. A run that ends by a signal has a page, too.
+    """
+    for name in ("nested", "buffer", "lap", "part"):
+        status, out, errors = bench.run(program, name, "--out", bench.path("out"), "--html", bench.path("found.html"))
+        told = out.endswith(f"The page of this run: {bench.path('found.html')}\n")
+        bench.check(f"pages: --html, {name}", (status, told, errors), (1, True, ""))
+        status, _, errors = bench.run(program, name, "--replay", bench.path("out"), "--html", bench.path("again.html"))
+        bench.check(f"pages: --html, {name}, the replay", (status, errors), (1, ""))
+        text = bench.get("found.html").decode()
+        bench.check(f"pages: --html, {name}: the same page", bench.get("again.html").decode() == text, True)
+        log = log_of_page(text)
+        bench.run(*PAGE, "--json", bench.path("page.json"), "--replay", bench.path("out"), "--", program, name)
+        wanted = log_in(bench.get("page.json").decode())
+        pairs = [(log.run, wanted.run), *([(log.other, wanted.other)] if wanted.other else [])]
+        for got, run in pairs:
+            bench.check(f"pages: --html, {name}, {got.name}: steps", list(map(plain, got.steps)),
+                        list(map(plain, run.steps)))
+            bench.check(f"pages: --html, {name}, {got.name}", got._replace(steps=()), run._replace(steps=()))
+            bench.check(f"pages: --html, {name}, {got.name}: states", logic().wrong(got), [])
+        bench.check(f"pages: --html, {name}: runs", (log.other is None, log.command),
+                    (wanted.other is None, f"{program} {name}"))
+        head, middle, end = template()
+        bench.check(f"pages: --html, {name}: the template",
+                    (text.startswith(f"{head}{program} {name}: {log.run.fault}".replace("'", "&#x27;")), middle in text,
+                     text.endswith(end)), (True, True, True))
+    lengths = {step.size for step in log.run.steps if step.action == "arrive"}
+    bench.check("pages: --html: sizes of frames", lengths, {300})
+    path = bench.path("none.html")
+    for words, wanted in [(("right", "--explore", "1", "--html", path), (0, "")),
+                          (("nested", "--pipe", "--html", path), (2, "--html: it goes without --pipe")),
+                          (("nested", "--html", "none/x.html"), (2, "none/x.html: No such file")),
+                          (("nested", "--html", "/"), (2, "--html: /: Is a directory"))]:
+        status, _, errors = bench.run(program, *words)
+        bench.check(f"pages: --html: {words}", (status, wanted[1] in errors, bench.get("none.html")),
+                    (wanted[0], True, None))
+    status, out, _ = bench.run(program, "nested", "--json", "--html", path)
+    got = status, out.count("\n"), bench.get("none.html") is not None
+    bench.check("pages: --html with --json", got, (1, 1, True))
+    ends = bench.build("ends", bench.source("ends.c", ABORTS))
+    status, _, errors = bench.run(ends, "--html", path)
+    log = log_of_page(bench.get("none.html").decode())
+    bench.check("pages: --html: a run that ends by a signal", (status, errors, log.run.fault, log.run.steps[-1].name),
+                (1, "", "ended by SIGABRT", "ICR"))
 
 
 def check_lab(bench, grade, library):
@@ -74,9 +212,10 @@ def check_lab(bench, grade, library):
     for number, heading in LAB.items():
         env = {"CFLAGS": f"-DWRONG={number}", "HTML": bench.path("lab.html")}
         status, out, errors = bench.execute(grade, library, solution, env=env, limit=600)
-        told = (bench.get("lab.html") or b"").decode()
-        bench.check(f"pages: lab {number}", (status, "fail: " in out, errors, escape(heading) in told),
-                    (1, True, "", True))
+        bench.check(f"pages: lab {number}", (status, "fail: " in out, errors), (1, True, ""))
+        log = log_of_page(bench.get("lab.html").decode())
+        found = logic().reasons(log.run, log.other)
+        bench.check(f"pages: lab {number}: why", found[0]["section"] if found else None, heading)
         bench.remove("lab.html")
     status, _, errors = bench.execute(grade, library, solution, env={"HTML": bench.path("lab.html")}, limit=600)
     bench.check("pages: lab, the right solution", (status, errors, bench.get("lab.html")), (0, "", None))

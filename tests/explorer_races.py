@@ -6,6 +6,7 @@ schedules, and tests that don't end. tests/explore.py runs these tests.
 
 import json
 import os
+import re
 import shutil
 import signal
 import subprocess
@@ -18,14 +19,32 @@ HOOKS = os.path.join(TOP, "bindings", "c", "explore", "pointers", "hooks.c")
 PASSES, FOUND, USAGE, NOT_RUN, NOTHING, DIFFERS = range(6)
 # For each test of passes.c: options, and the number of deviations of the smallest schedule of the wrong twin
 TWINS = {"flag": ([], 2), "heap": ([], 2), "dead": ([], 1), "prompt": ([], 2), "late": ([], 2), "settle": ([], 2),
-         "line": ([], 1), "link": (["--holds"], 5), "choose": ([], 1), "nested": ([], 3)}
+         "line": ([], 1), "link": (["--holds"], 5), "choose": ([], 1), "nested": ([], 3), "masked": ([], 2),
+         "removed": ([], 2), "unmasked": ([], 1), "given": ([], 1), "order": ([], 1)}
+# Of these tests, the only place at which the race shows
+PLACES = {"line": "line", "masked": "interrupts off", "removed": "handler off", "unmasked": "interrupts on",
+          "given": "handler on"}
 # What a test keeps or does, and the end of the line on standard error
 REFUSED = {"file": "opens a file (openat)", "stream": "opens a file (openat)", "fork": "starts a child (clone)",
            "system": "starts a child (clone3)", "thread": "starts a thread (clone3)",
            "input": "reads from a file (read)",
            "shared": "maps memory (mmap)", "random": "asks for random numbers (getrandom)",
            "adapter": "makes an adapter of its own",
-           "guard": "protects memory (mprotect)", "madvise": "gives memory back (madvise)"}
+           "guard": "protects memory (mprotect)", "madvise": "gives memory back (madvise)",
+           "read only": "maps memory (mmap)", "mremap": "moves memory (mremap)",
+           "brk": "moves the end of its data (brk)",
+           "handles": "handles a signal (rt_sigaction)", "kill": "looks at another process (getppid)",
+           "SIGSTOP": "stops its process (SIGSTOP)", "SIGUSR2": "sends itself a signal that main handles (SIGUSR2)",
+           "switches": "runs on another stack than that of its function (makecontext)"}
+# What the test does if a frame is finished early, and what then is wrong with the run
+ACTS = {**{name: f"ended by {name}" for name in ("SIGALRM", "SIGUSR1", "SIGTERM", "SIGKILL", "SIGSEGV", "SIGABRT")},
+        "kills itself": "ended by SIGUSR1", "exits": "the test ends its process with exit status 7"}
+HARMLESS = "SIGCHLD", "SIGPIPE", "ignores", "parts", "switches silently", "output"
+# Where a test keeps a bit. Each search has the answer of that with a static variable.
+KEPT = ("specific", "cancel state", "cancel type", "long flag", "flag", "rounding", "errno", "sbrk", "main", "mask",
+        "ignored", "pending")
+THREADED = ("explore: the process has another thread, which may write memory at any time: search before it is started, "
+            "or in a process of its own\n")
 THREADS = ["-O0", "-ftrivial-auto-var-init=zero", "-pthread"]
 SAVED = "static", "mask", "thread-local", "main", "mapped", "rand", "printf", "stream in memory"
 WRONG_CALLS = {"x_choose": "x_choose: `count` isn't a number from 1 to 16", "x_load": "x_load: `into` is NULL",
@@ -86,42 +105,70 @@ static const char *test(void *word)
 }
 int main(int count, char **words) { return nic82540em_explore(count, words, test, 0); }
 """
-# A driver that looks at a variable of its handler, and then sleeps: wrong, if it doesn't look again.
-WAKE = """
+# Stores in a descriptor that is taken: what the explorer names
+STORES = {"plain": ("slot[12] = 0", None), "of a range": ("memset(slot + 8, 0, 8)", None),
+          "by inline assembly": ('__asm__ volatile("movb $0, %0" : "=m"(slot[12]))', "0x100c before read rx[1]+12")}
+# A driver that looks at what its handler has written, and then sleeps: wrong, if it doesn't look again. What both share
+# is the test's, or in the frame of the function that waits.
+SHARED = """
 #include <stdbool.h>
-void driver_sleep(void);
-volatile bool driver_is_ready, driver_sleeps;
-void driver_wait(void)
-{
-    if (!driver_is_ready)
-        driver_sleeps = true;
-    if (!IS_WRONG && driver_is_ready)
-        driver_sleeps = false;
-}
-void driver_wake(void) { driver_is_ready = true, driver_sleeps = false; }
+#include <stddef.h>
+struct shared { volatile bool is_ready, sleeps; };
 """
-WAKE_TEST = """
-#include <nic82540em_explore.h>
-void driver_wait(void);
-void driver_wake(void);
-extern volatile bool driver_sleeps;
-static void interrupt(void) { if (x_read(NIC_ICR) & NIC_RXT0) driver_wake(); }
+WAKE = SHARED + """
+void driver_wait(struct shared *it)
+{
+    if (!it->is_ready)
+        it->sleeps = true;
+    if (!IS_WRONG && it->is_ready)
+        it->sleeps = false;
+}
+void driver_wake(struct shared *it) { it->is_ready = true, it->sleeps = false; }
+"""
+OWN_FRAME = SHARED + """
+static struct shared *volatile waiting;
+void driver_wait(struct shared *result)
+{
+    struct shared own = { false, false };
+    waiting = &own;
+    if (!own.is_ready)
+        own.sleeps = true;
+    if (!IS_WRONG && own.is_ready)
+        own.sleeps = false;
+    waiting = NULL;
+    result->sleeps = own.is_ready && own.sleeps;
+}
+void driver_wake(struct shared *unused)
+{
+    (void)unused;
+    if (waiting)
+        waiting->is_ready = true, waiting->sleeps = false;
+}
+"""
+WAKE_TEST = "#include <nic82540em_explore.h>" + SHARED + """
+void driver_wait(struct shared *it);
+void driver_wake(struct shared *it);
+static struct shared *shared;
+static void interrupt(void) { if (x_read(NIC_ICR) & NIC_RXT0) driver_wake(shared); }
 static const char *test(void *word)
 {
     static const uint8_t frame[60] = { 255, 255, 255, 255, 255, 255 };
+    STORAGE struct shared it = { false, false };
     (void)word;
+    shared = &it;
     x_store(0x1000, (uint64_t[]){ 0x10000, 0 }, 16);
     x_write(NIC_RDBAL, 0x1000), x_write(NIC_RDLEN, 128), x_write(NIC_RDT, 1);
     x_write(NIC_RCTL, NIC_RCTL_EN | NIC_RCTL_BAM), x_write(NIC_IMS, NIC_RXT0);
     x_handler(interrupt);
     x_arrive(frame, 60);
-    driver_wait();
+    driver_wait(shared);
     while (x_settle())
         ;
-    return driver_sleeps ? "the driver sleeps for ever" : 0;
+    return it.sleeps ? "the driver sleeps for ever" : 0;
 }
 int main(int count, char **words) { return nic82540em_explore(count, words, test, 0); }
 """
+WAKES = {"wake": (WAKE, "static"), "wake, on the test's stack": (WAKE, ""), "wake, in its own frame": (OWN_FRAME, "")}
 # A solution of the lab whose handler doesn't end
 STUDENT = """
 #include "e1000.h"
@@ -148,10 +195,15 @@ def passes(bench):
         status, result, errors = result_of(bench, test, name, "wrong", "--explore", "every", *words, "--out", found)
         got = status, result["result"], len(result["schedule"]), result["search"]["smallest"], errors
         bench.check(f"passes: {name}, wrong", got, (FOUND, "fails", size, True, ""))
+        if name in PLACES:
+            at = {re.sub(r"^\d+[.]\d+[+]1 (?:rx|irq) before ", "", line) for line in result["schedule"]}
+            bench.check(f"passes: {name}, its place", at, {PLACES[name]})
         status, again, errors = result_of(bench, test, name, "wrong", "--replay", found)
         bench.check(f"passes: {name}, again", (status, again["fault"], errors), (FOUND, result["fault"], ""))
         status, out, _ = bench.run(test, name, "wrong", "--replay", found, "--log")
-        bench.check(f"passes: {name}, its log", (status, out.splitlines()[-1]), (FOUND, result["fault"]))
+        place = f"+1  {PLACES[name]}" if name in PLACES else ""
+        bench.check(f"passes: {name}, its log", (status, place in out, out.splitlines()[-1]),
+                    (FOUND, True, result["fault"]))
     found = bench.source("found", "1.1 rx before read STATUS\n1.1+1 late irq before handler\n")
     status, out, errors = bench.run(test, "late", "wrong", "--replay", found, "--serve", bench.program)
     wanted = f"{bench.program} serve can't play it: it has no handlers, and no places but accesses and requests"
@@ -178,6 +230,17 @@ def calls(bench):
         got = bench.run(test, what, "--explore", "every", data="x")
         wanted = f"explore: the test {why}: it can't be saved with the state of the test\n"
         bench.check(f"calls: {what}", got, (NOT_RUN, "", wanted))
+    got = bench.run(test, "jumps", "--explore", "every")
+    wanted = "explore: the test leaves its handler by a jump (longjmp): end it by a return\n"
+    bench.check("calls: jumps", got, (NOT_RUN, "", wanted))
+    for what, why in ACTS.items():
+        for words in (["--explore", "every"], ["--explore", "1", "--again"]):
+            status, result, errors = result_of(bench, test, what, *words)
+            got = status, result["fault"], result["schedule"], errors
+            bench.check(f"calls: {what} {words}", got, (FOUND, why, ["1.1 rx before read rx[0]+12"], ""))
+    for what in HARMLESS:
+        status, result, errors = result_of(bench, test, what, "--explore", "every")
+        bench.check(f"calls: {what}", (status, result["result"], errors), (PASSES, "passes", ""))
     errors = bench.source("errors.txt", "")
     status, out, _ = bench.run("sh", "-c", f"'{test}' position --explore every --json 2> '{errors}'")
     result = json.loads(out)
@@ -193,13 +256,45 @@ def calls(bench):
     bench.check("calls: what a replay prints", out.count("a line\n"), 3)
 
 
+def failing_of(out):
+    """How many schedules fail, and of how many."""
+    return re.findall("holds: ([1-9][0-9]*) of ([0-9]+) fail$", out, re.M)
+
+
+def kept(bench):
+    """A bit that decides the outcome is a part of the state, wherever the C library or the processor keeps it for the
+    thread. So it is with glibc and musl, in programs with shared objects and in static ones. A process with another
+    thread is refused; one that a thread has forked isn't.
+    """
+    own = bench.compiler
+    for compiler, words in (own, []), (own, ["-static"]), ("musl-gcc", []), ("musl-gcc", ["-static"]):
+        if not shutil.which(compiler):
+            print(f"kept: there is no {compiler}")
+            continue
+        name = " ".join([os.path.basename(compiler), *words])
+        bench.compiler = shutil.which(compiler)
+        flags = [*THREADS, *words]
+        test = bench.build(f"kept by {name}", os.path.join(SOURCES, "kept.c"), words=flags, objects=["-lm"])
+        bench.compiler = own
+        failing = failing_of(bench.run(test, "static", "--explore", "3", "--all")[1])
+        bench.check(f"kept: {name}", bool(failing), True)
+        for place in KEPT:
+            if place == "sbrk" and compiler == "musl-gcc":
+                continue  # it has no sbrk
+            for more in ([], ["child"]):
+                status, out, errors = bench.run(test, place, "--explore", "3", "--all", *more)
+                bench.check(f"kept: {name}: {place} {more}", (status, failing_of(out), errors), (FOUND, failing, ""))
+        bench.check(f"kept: {name}: a thread", bench.run(test, "static", "thread"), (NOT_RUN, "", THREADED))
+
+
 def hooks(bench):
     """With the hooks, each access by a pointer and of a shared variable is a place, with gcc and with clang."""
     for compiler in filter(shutil.which, ("gcc", "clang")):
         flags = ["-c", "-O1", "-fno-builtin", "-fsanitize=thread"]
         flags += ["--param=tsan-distinguish-volatile=1"] if compiler == "gcc" else []
-        sources = [(name, TORN.replace("STYLE", style), TORN_TEST) for name, style in STYLES.items()]
-        for name, driver, test in [*sources, ("wake", WAKE, WAKE_TEST)]:
+        torn = [(name, TORN.replace("STYLE", style), TORN_TEST) for name, style in STYLES.items()]
+        wakes = [(name, driver, WAKE_TEST.replace("STORAGE", storage)) for name, (driver, storage) in WAKES.items()]
+        for name, driver, test in [*torn, *wakes]:
             for is_wrong in 0, 1:
                 path = bench.source("driver.c", driver.replace("IS_WRONG", str(is_wrong)))
                 made = os.path.join(bench.folder, "driver.o")
@@ -209,6 +304,23 @@ def hooks(bench):
                 _, result, errors = result_of(bench, program, "--explore", "every")
                 wanted = "fails" if is_wrong else "passes"
                 bench.check(f"hooks: {compiler}, {name}, {is_wrong}", (result["result"], errors), (wanted, ""))
+
+
+def untold(bench):
+    """A store in the host's memory by inline assembly is named. Stores that have hooks aren't."""
+    for name, (store, wanted) in STORES.items():
+        text = TORN.replace("STYLE", STYLES["volatile"]).replace("IS_WRONG", "0")
+        driver = bench.source("driver.c", text.replace("    *bad += length", f"    {store};\n    *bad += length"))
+        made = os.path.join(bench.folder, "driver.o")
+        flags = ["-c", "-O1", "-fno-builtin", "-fsanitize=thread", "--param=tsan-distinguish-volatile=1"]
+        ran = subprocess.run([bench.compiler, *flags, "-o", made, driver], capture_output=True, text=True)
+        bench.check(f"untold: {name} is compiled", (ran.returncode, ran.stderr), (0, ""))
+        program = bench.build("hooked", bench.source("hooked.c", TORN_TEST), HOOKS, objects=[made])
+        result = result_of(bench, program, "--explore", "1")[1]
+        bench.check(f"untold: {name}", (result["result"], result["seen"]["untold"]), ("passes", wanted))
+        line = f"the host's memory was changed without an access, first {wanted}: "
+        out = bench.run(program, "--explore", "1")[1]
+        bench.check(f"untold: {name}, the line", line in out, wanted is not None)
 
 
 def schedules(bench):
@@ -237,6 +349,9 @@ def schedules(bench):
     bench.check("schedules: a device", got, (USAGE, "", "explore: /dev/zero: line 1: it is a device\n"))
     status, _, errors = bench.run(bench.stages, "late", "--explore", "1", "--out", "/dev/full")
     bench.check("schedules: not stored", (status, errors), (NOT_RUN, "explore: the schedule can't be stored\n"))
+    path = bench.path("limited.txt")
+    limited = bench.run("/bin/sh", "-c", f"ulimit -f 0; exec {bench.stages} late --explore 1 --out {path}")
+    bench.check("schedules: above a limit of files", (limited[0], limited[2]), (status, errors))
 
 
 def left_of(program):

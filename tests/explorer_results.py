@@ -19,8 +19,21 @@ PASSES, FOUND, USAGE, NOT_RUN, NOTHING = range(5)
 SIGNALS = signal.SIGINT, signal.SIGTERM, signal.SIGHUP
 WITHOUT_TOUCH = ("the handler cut in at accesses and requests, not between uses of shared variables: "
                  "x_touch makes these places")
-KEYS = {"result", "seed", "fault", "schedule", "runs", "search", "served"}
+KEYS = {"result", "seed", "fault", "schedule", "runs", "search", "seen", "served"}
 SEARCH_KEYS = {"complete", "tried", "smallest", "holds", "first", "schedules", "states", "depth"}
+# For searches: the cases that their runs have seen, and the number of kinds of places that they reached. Then the
+# number of kinds without a deviation, some of them, and the end of the line about them.
+SEEN = [("stages", "right --explore 1", [True, True, True, True, False, None], 35, 22, ["write MTA[]"],
+         "before 13 of 35 kinds of places; never before 22 that only round 0 has"),
+        ("stages", "offers:right --explore 1", [True, True, False, False, True, None], 34, 24, ["write PBA"],
+         "never before write PBA, nor before 23 that only round 0 has"),
+        ("stages", "cuts:cuts --explore 2 --all", [True, False, True, False, False, True], 38, 24, ["arrive"], None),
+        ("stages", "cuts:right --explore 1", [True, False, True, False, False, False], 40, 24, ["handler on"],
+         "never before arrive, nor before 23 that only round 0 has"),
+        ("passes", "masked --explore every", [False, False, None, None, False, False], 12, 11, ["write memory"],
+         "before 1 of 12 kinds of places; never before write RDT, arrive, read ICR, read rx[]+12, write rx[], nor "
+         "before 6 that only round 0 has")]
+SEEN_KEYS = "receive_wrapped", "receive_dry", "transmit_wrapped", "transmit_full", "missed", "handler_in_send"
 # The line in which the handler of my_test.c reads ICR, and the end of this handler
 READS_ICR, LOOPS = ("    x_read(NIC_ICR); /* first: a frame that is finished later raises the line again */\n",
                     "    }\n}\n\nstatic void send(")
@@ -259,6 +272,18 @@ def handlers(bench, stopped, looks):
     bench.check("handlers: the chart", wanted, (["   The test passes."], True))
 
 
+def seen(bench, stages):
+    """The result of a search has the cases that its runs have seen, and the places without a deviation."""
+    programs = {"stages": stages, "passes": bench.build("passes", os.path.join(TOP, "tests", "explorer", "passes.c"))}
+    for program, words, cases, reached, never, some, line in SEEN:
+        result = result_of(bench, programs[program], *words.split())[1]["seen"]
+        got = [result[key] for key in SEEN_KEYS], result["reached"], len(result["never"])
+        bench.check(f"seen: {words}", (got, set(some) <= set(result["never"])), ((cases, reached, never), True))
+        if line:
+            out = bench.run(programs[program], *words.split())[1]
+            bench.check(f"seen: {words}, the line", f"{line}\n" in out, True)
+
+
 def as_json(bench, stages, longer):
     """The JSON object of each kind of search has the same keys, and the expected results."""
     status, result = result_of(bench, stages, "right")
@@ -396,6 +421,7 @@ def check_results(bench, stages, empty):
     faults(bench, counter)
     handlers(bench, stopped, looks)
     as_json(bench, stages, longer)
+    seen(bench, stages)
     nothing(bench, empty)
     signals(bench, stages)
     words(bench, stages)

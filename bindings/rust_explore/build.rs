@@ -4,5 +4,5 @@ mod assemble;
 
 fn main() {
     let files = ["nic82540em_explore.c", "nic82540em_malloc.c"];
-    assemble::link("nic82540em_explore", &files, &["nic82540em", "schedule_search"]);
+    assemble::link("nic82540em_explore", &files, &["nic82540em", "search"]);
 }

@@ -398,13 +398,18 @@ void *x_memory(size_t size)
 
 void x_handler(void (*new_handler)(void))
 {
+    if (handler || new_handler)
+        at(SUB, true, 0);
     handler = new_handler, is_late = false;
+    cut_in();
 }
 
 bool x_interrupts(bool is_on)
 {
     bool before = !is_kept_out;
 
+    if (handler && (is_on || before))
+        at(SUB, true, 0);
     is_kept_out = !is_on;
     cut_in();
     return before;

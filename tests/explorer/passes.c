@@ -304,6 +304,106 @@ static const char *nested(void)
     return x_choose(2) && ready && is_wrong ? "the driver is closed with a frame" : NULL;
 }
 
+/* The driver looks at what the handler has counted, and then keeps it out, or removes it. Wrong: it doesn't look again. */
+
+static void mask(void)
+{
+    x_interrupts(false);
+}
+
+static void remove_handler(void)
+{
+    x_handler(NULL);
+}
+
+static const char *stops(void (*stop)(void))
+{
+    unsigned seen;
+
+    begin(SLOTS, SLOTS - 1), x_write(NIC_IMS, NIC_RXT0);
+    x_handler(acknowledge_and_take);
+    arrive();
+    seen = ready;
+    stop();
+    if (!is_wrong)
+        seen = ready;
+    return seen == ready ? NULL : "the driver hasn't seen a frame";
+}
+
+static const char *masked(void)
+{
+    return stops(mask);
+}
+
+static const char *removed(void)
+{
+    return stops(remove_handler);
+}
+
+/* The driver sleeps, and lets the handler in, or gives it. Wrong: it sleeps only afterwards, when the handler may have
+ * woken it. */
+
+static bool is_asleep;
+
+static void wake(void)
+{
+    acknowledge_and_take();
+    is_asleep = false;
+}
+
+static void unmask(void)
+{
+    x_interrupts(true);
+}
+
+static void give_handler(void)
+{
+    x_handler(wake);
+}
+
+static const char *starts(void (*start)(void))
+{
+    begin(SLOTS, SLOTS - 1), x_write(NIC_IMS, NIC_RXT0);
+    arrive();
+    is_asleep = !is_wrong;
+    start();
+    is_asleep |= is_wrong;
+    while (x_settle())
+        ;
+    return is_asleep ? "the driver sleeps for ever" : NULL;
+}
+
+static const char *unmasked(void)
+{
+    x_interrupts(false);
+    x_handler(wake);
+    return starts(unmask);
+}
+
+static const char *given(void)
+{
+    return starts(give_handler);
+}
+
+/* Wrong: the driver takes a frame at once only if it has also taken the one before it at once. */
+
+static bool was_early;
+
+static const char *order(void)
+{
+    begin(SLOTS, SLOTS - 1);
+    for (unsigned n = 0; n < 2; n++) {
+        bool is_early;
+        arrive();
+        is_early = status_of(n) & NIC_RXD_DD;
+        if (is_wrong && n == 1 && is_early && !was_early)
+            return "the second frame is early, and the first one wasn't";
+        was_early = is_early, is_early = false;
+        x_settle();
+    }
+    return NULL;
+}
+
 /* Four frames of which the packet buffer has no room for all. The handler counts the frames that were missed, and gives
  * all slots back. Nothing is wrong: `while (x_settle());` must not end before all was received. */
 
@@ -342,7 +442,8 @@ static const struct {
     const char *(*test)(void);
 } tests[] = { { "flag", flag }, { "heap", heap }, { "dead", dead }, { "prompt", prompt }, { "late", late },
               { "settle", settle }, { "line", line }, { "link", link_up }, { "choose", chooses }, { "nested", nested },
-              { "overrun", overrun } };
+              { "masked", masked }, { "removed", removed }, { "unmasked", unmasked }, { "given", given },
+              { "order", order }, { "overrun", overrun } };
 
 static const char *test(void *word)
 {

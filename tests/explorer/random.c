@@ -46,13 +46,15 @@ static void send(void)
     x_write(NIC_TDT, tx);
 }
 
+static void interrupt(void);
+
 static void act(uint32_t what)
 {
     static const uint8_t frame[60] = { 255, 255, 255, 255, 255, 255 };
 
     uint8_t byte;
 
-    switch (what % 16) {
+    switch (what % 19) {
     case 0:
         hear(x_read(NIC_ICR));
         break;
@@ -75,25 +77,31 @@ static void act(uint32_t what)
         send();
         break;
     case 8:
-        hear(x_choose(2 + what / 16 % 2));
+        hear(x_choose(2 + what / 19 % 2));
         break;
-    case 9:
-        hear(x_interrupts(what / 16 % 2));
+    case 9: case 16:
+        hear(calls), hear(x_interrupts(what / 19 % 2)), hear(calls);
+        break;
+    case 17: /* the handler is removed, or given, perhaps again */
+        hear(calls), x_handler(what / 19 % 3 ? interrupt : NULL), hear(calls);
         break;
     case 10:
         hear(x_read(NIC_RDH));
         break;
     case 11: /* what was left in a buffer */
-        x_load(BUFFERS + 2048 * (what / 16 % 3) + 14, &byte, 1), hear(byte);
+        x_load(BUFFERS + 2048 * (what / 19 % 3) + 14, &byte, 1), hear(byte);
         break;
     case 12: /* the length in a transmit descriptor, which may be done */
-        x_load(TX_RING + 16 * (what / 16 % 2) + 8, &byte, 1), hear(byte);
+        x_load(TX_RING + 16 * (what / 19 % 2) + 8, &byte, 1), hear(byte);
         break;
     case 13:
-        hear(x_read(what / 16 % 2 ? NIC_GPRC : NIC_GPTC));
+        hear(x_read(what / 19 % 2 ? NIC_GPRC : NIC_GPTC));
         break;
     case 14: /* another buffer for a slot that may be in progress */
         x_store(RX_RING, (uint64_t[]){ BUFFERS + 2048, 0 }, 16), rx = 0;
+        break;
+    case 18:
+        hear(x_step(what / 19 % 4));
         break;
     default:
         hear(x_arrive(frame, sizeof frame));
@@ -138,7 +146,7 @@ static const char *test(void *word)
     x_interrupts(true);
     hear((uint32_t)x_settle());
     load_status();
-    act(11 + 16 * draw(&state)), act(11 + draw(&state) % 3);
+    act(11 + 19 * draw(&state)), act(11 + draw(&state) % 3);
     hear(x_put_count() + 16 * x_arrived_count());
     outcome = heard % OUTCOMES;
     return outcome == wanted ? "it has the wanted outcome" : NULL;

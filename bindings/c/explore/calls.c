@@ -1,9 +1,9 @@
 /* System calls of the test, and signals.
  *
- * While the test runs, the kernel sends SIGSYS in place of each system call (Syscall User Dispatch, on x86-64 from Linux
- * 5.11 on). Calls that change nothing a run could use again are made. Memory of mmap is served from the test's heap.
- * All others are refused with their names, since a saved state has no files, no processes and no threads. Without this
- * part of the kernel, no call is refused.
+ * While the test runs, the kernel sends SIGSYS in place of each system call (Syscall User Dispatch, on x86-64 from
+ * Linux 5.11 on). Calls that change nothing a run could use again are made. Memory of mmap is served from the test's
+ * heap, and signals.c answers what the test does with signals. All others are refused with their names, since a saved
+ * state has no files, no processes and no threads. Without this part of the kernel, no call is refused.
  */
 #define _GNU_SOURCE
 #include "inside.h"
@@ -26,6 +26,7 @@
 #endif
 
 enum { ALLOW, BLOCK };
+enum { MOST_WRITTEN = 143 }; /* the calls that are made write up to so many bytes after the first one */
 static volatile char selector = ALLOW;
 static long own_thread; /* the number of the thread that has called the explorer */
 static void *own_pointer; /* its thread-local variables, also in processes that are forked */
@@ -113,14 +114,43 @@ static const struct {
     { SYS_mmap, "mmap", "maps memory" },
     { SYS_mprotect, "mprotect", "protects memory" },
     { SYS_madvise, "madvise", "gives memory back" },
+    { SYS_mremap, "mremap", "moves memory" },
+    { SYS_brk, "brk", "moves the end of its data" },
+    { SYS_mlock, "mlock", "locks memory" },
+    { SYS_msync, "msync", "writes memory to a file" },
     { SYS_shmget, "shmget", "shares memory" },
     { SYS_shmat, "shmat", "shares memory" },
     { SYS_memfd_create, "memfd_create", "opens a file" },
     { SYS_rt_sigaction, "rt_sigaction", "handles a signal" },
     { SYS_kill, "kill", "sends a signal" },
+    { SYS_tkill, "tkill", "sends a signal" },
+    { SYS_tgkill, "tgkill", "sends a signal" },
+    { SYS_rt_sigqueueinfo, "rt_sigqueueinfo", "sends a signal" },
+    { SYS_rt_tgsigqueueinfo, "rt_tgsigqueueinfo", "sends a signal" },
+    { SYS_rt_sigsuspend, "rt_sigsuspend", "waits for a signal" },
+    { SYS_rt_sigtimedwait, "rt_sigtimedwait", "waits for a signal" },
+    { SYS_pause, "pause", "waits for a signal" },
+    { SYS_signalfd4, "signalfd4", "waits for a signal" },
+    { SYS_sigaltstack, "sigaltstack", "gives handlers a stack" },
     { SYS_alarm, "alarm", "sets a timer" },
     { SYS_setitimer, "setitimer", "sets a timer" },
     { SYS_timer_create, "timer_create", "sets a timer" },
+    { SYS_timerfd_create, "timerfd_create", "sets a timer" },
+    { SYS_eventfd2, "eventfd2", "opens a file" },
+    { SYS_epoll_create1, "epoll_create1", "opens a file" },
+    { SYS_getcwd, "getcwd", "looks at a folder" },
+    { SYS_chdir, "chdir", "changes its folder" },
+    { SYS_prctl, "prctl", "changes its process" },
+    { SYS_prlimit64, "prlimit64", "changes its limits" },
+    { SYS_sched_setaffinity, "sched_setaffinity", "changes its processors" },
+    { SYS_sched_getaffinity, "sched_getaffinity", "looks at its processors" },
+    { SYS_getrusage, "getrusage", "reads a clock" },
+    { SYS_times, "times", "reads a clock" },
+    { SYS_clock_getres, "clock_getres", "reads a clock" },
+    { SYS_uname, "uname", "looks at its system" },
+    { SYS_sysinfo, "sysinfo", "looks at its system" },
+    { SYS_getppid, "getppid", "looks at another process" },
+    { SYS_ptrace, "ptrace", "uses another process" },
     { SYS_getrandom, "getrandom", "asks for random numbers" },
     { SYS_clock_gettime, "clock_gettime", "reads a clock" },
     { SYS_gettimeofday, "gettimeofday", "reads a clock" },
@@ -142,6 +172,20 @@ static long made(long number, const long *words)
     return result;
 }
 
+/* Makes a system call. The kernel doesn't write to pages that are watched: these are then noted as written, and the
+ * call is made again. */
+static long made_with_pages(long number, const long *words)
+{
+    long result = made(number, words);
+
+    for (int n = 0; result == -EFAULT && n < 4; n++) {
+        bool is_first = xi_is_first_write((const void *)words[n]);
+        if (xi_is_first_write((const void *)(words[n] + MOST_WRITTEN)) || is_first)
+            result = made(number, words), n = -1;
+    }
+    return result;
+}
+
 static bool is_terminal(long file)
 {
     return file == STDOUT_FILENO || file == STDERR_FILENO;
@@ -160,48 +204,49 @@ static bool is_harmless(long number, const long *words)
         return is_terminal(words[0]);
     case SYS_newfstatat:
         return is_terminal(words[0]) && has_no_name(words[1]);
-    case SYS_rt_sigreturn: case SYS_tgkill: case SYS_gettid: case SYS_getpid: case SYS_futex:
-    case SYS_sched_yield: case SYS_nanosleep: case SYS_clock_nanosleep: case SYS_exit: case SYS_exit_group:
-    case SYS_getuid: case SYS_geteuid: case SYS_getgid: case SYS_getegid: case SYS_getcpu: case SYS_membarrier:
+    case SYS_brk:
+        return !words[0];
+    case SYS_rt_sigreturn: case SYS_gettid: case SYS_getpid: case SYS_futex: case SYS_sched_yield: case SYS_nanosleep:
+    case SYS_clock_nanosleep: case SYS_getuid: case SYS_geteuid: case SYS_getgid: case SYS_getegid: case SYS_getcpu:
+    case SYS_membarrier:
         return true;
     }
     return false;
 }
 
-/* Whether a call is answered with 0, and not made. The C library handles signals for itself before it starts a child
- * or a thread, and protects memory of mmap, which is in the test's heap. */
+/* Whether a call is answered with 0, and not made: memory of mmap is in the test's heap, which can be written. */
 static bool is_needless(long number, const long *words)
 {
-    bool is_librarys = words[0] == SIGINT || words[0] == SIGQUIT || words[0] == SIGABRT || words[0] == 32 ||
-                       words[0] == 33;
-
-    if (number == SYS_mprotect)
-        return words[2] == (PROT_READ | PROT_WRITE) && (uintptr_t)words[0] >= XI_HEAP &&
-               (uintptr_t)words[0] < XI_HEAP + XI_HEAP_SIZE;
-    return number == SYS_rt_sigaction && is_librarys;
+    return number == SYS_mprotect && words[2] == (PROT_READ | PROT_WRITE) && (uintptr_t)words[0] >= XI_HEAP &&
+           (uintptr_t)words[0] < XI_HEAP + XI_HEAP_SIZE;
 }
 
-/* Whether a call is one of mmap for memory of nobody else, or one that frees such memory. */
+/* Whether a call is one of mmap for memory of nobody else that can be written, or one that frees such memory. The C
+ * library makes the stack of a thread writable later; then the call that starts the thread is refused. */
 static bool is_memory(long number, const long *words)
 {
     long kinds = MAP_ANONYMOUS | MAP_PRIVATE;
+    bool is_writable = words[2] == (PROT_READ | PROT_WRITE) || words[3] & MAP_STACK;
 
     if (number == SYS_mmap)
-        return (words[3] & (kinds | MAP_FIXED | MAP_FIXED_NOREPLACE)) == kinds && !(words[2] & PROT_EXEC);
+        return (words[3] & (kinds | MAP_FIXED | MAP_FIXED_NOREPLACE)) == kinds && is_writable;
     return number == SYS_munmap;
 }
 
 static long memory_call(long number, const long *words)
 {
+    size_t size = (size_t)words[1];
     void *block;
 
+    if (!size || size > XI_HEAP_SIZE || (number == SYS_munmap && words[0] % PAGE))
+        return size > XI_HEAP_SIZE && number == SYS_mmap ? -ENOMEM : -EINVAL;
+    size = (size + PAGE - 1) / PAGE * PAGE;
     xi_resume(BLOCK); /* so that the block is of the test's heap */
-
     if (number == SYS_munmap) {
-        xi_free((void *)words[0]);
+        xi_unmap((void *)words[0], size);
         return 0;
     }
-    block = xi_alloc((size_t)words[1], PAGE);
+    block = xi_alloc(size, PAGE);
     return block ? (long)(uintptr_t)block : -ENOMEM;
 }
 
@@ -213,19 +258,52 @@ static bool is_thread(long number, const long *words)
     return number == SYS_clone && words[0] & CLONE_THREAD;
 }
 
-/* Changes the test's signal mask, which is a part of its state, and not the process's. */
-static long mask_call(const long *words)
+/* Whether a call ends the process */
+static bool is_end(long number)
 {
-    const uint64_t *set = (const uint64_t *)words[1];
-    uint64_t *before = (uint64_t *)words[2], value = set ? *set : 0;
+    return number == SYS_exit || number == SYS_exit_group;
+}
 
-    if (before)
-        *before = xi_state->signal_mask;
-    if (set && words[0] == SIG_SETMASK)
-        xi_state->signal_mask = value;
-    else if (set)
-        xi_state->signal_mask = words[0] == SIG_BLOCK ? xi_state->signal_mask | value : xi_state->signal_mask & ~value;
-    return 0;
+static _Noreturn void end(long status)
+{
+    static char texts[256][56];
+    char *text = texts[status & 0xFF];
+
+    snprintf(text, sizeof *texts, "the test ends its process with exit status %ld", status & 0xFF);
+    xi_fail(text);
+}
+
+/* Whether a call is one of those for signals that signals.c answers: of the signals that are sent, those to the
+ * process or the thread itself. */
+static bool is_of_signals(long number, const long *words)
+{
+    switch (number) {
+    case SYS_rt_sigprocmask: case SYS_rt_sigpending:
+        return true;
+    case SYS_rt_sigaction:
+        return xi_is_action_known(words);
+    case SYS_kill:
+        return words[0] == getpid();
+    case SYS_tkill:
+        return words[0] == syscall(SYS_gettid);
+    case SYS_tgkill:
+        return words[0] == getpid() && words[1] == syscall(SYS_gettid);
+    }
+    return false;
+}
+
+static long signals_call(long number, const long *words)
+{
+    switch (number) {
+    case SYS_rt_sigprocmask:
+        return xi_mask_call(words);
+    case SYS_rt_sigaction:
+        return xi_action_call(words);
+    case SYS_rt_sigpending:
+        *(uint64_t *)words[0] = xi_state->pending;
+        return 0;
+    }
+    return xi_send_signal(words[number == SYS_tgkill ? 2 : 1]);
 }
 
 static _Noreturn void refuse(long number, const long *words)
@@ -255,8 +333,10 @@ static void on_call(int number, siginfo_t *info, void *context)
         signal(SIGSYS, SIG_DFL);
     else if (is_memory(call, words))
         at[REG_RAX] = memory_call(call, words);
-    else if (call == SYS_rt_sigprocmask)
-        at[REG_RAX] = mask_call(words);
+    else if (is_of_signals(call, words))
+        at[REG_RAX] = signals_call(call, words);
+    else if (is_end(call))
+        end(words[0]);
     else if (is_needless(call, words))
         at[REG_RAX] = 0;
     else if (!is_harmless(call, words))
@@ -264,7 +344,7 @@ static void on_call(int number, siginfo_t *info, void *context)
     else if (!xi_prints && call == SYS_write && words[0] == STDOUT_FILENO)
         at[REG_RAX] = words[2];
     else
-        at[REG_RAX] = made(call, words);
+        at[REG_RAX] = made_with_pages(call, words);
     xi_resume(BLOCK);
 }
 
@@ -281,14 +361,15 @@ void xi_on(int number, void (*handler)(int, siginfo_t *, void *), int flags)
         unsigned long flags;
         void *restorer;
         unsigned long mask;
-    } action = { (void *)handler, (unsigned long)flags | SA_SIGINFO | 0x04000000, (void *)xi_return, 0 };
+    } action = { (void *)handler, (unsigned long)flags | SA_SIGINFO | 0x04000000, (void *)xi_return, 0 }, before;
 
-    syscall(SYS_rt_sigaction, number, &action, NULL, 8);
+    if (syscall(SYS_rt_sigaction, number, &action, &before, 8) == 0)
+        xi_know_action(number, before.handler);
 }
 
 void xi_block_calls(void)
 {
-    xi_on(SIGSYS, on_call, SA_NODEFER);
+    xi_on(SIGSYS, on_call, SA_NODEFER | SA_ONSTACK);
     prctl(PR_SET_SYSCALL_USER_DISPATCH, 1, xi_return, 16, &selector);
 }
 #else

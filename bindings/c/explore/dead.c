@@ -27,19 +27,11 @@ static bool is_counter_used[COUNTERS];
 static struct area used[MOST_USED]; /* bytes that runs have read, and that aren't cleared */
 static unsigned used_count;
 
-static uint8_t *memory(uint64_t *size)
-{
-    void *at = NULL;
-
-    *size = nic82540em_memory(&S->nic, &at);
-    return at;
-}
-
 /* The bytes of an area, or NULL if some are outside of memory */
 static uint8_t *bytes_at(uint64_t address, uint64_t count)
 {
     uint64_t size;
-    uint8_t *all = memory(&size);
+    uint8_t *all = xi_host(&size);
 
     return address < size && count <= size - address ? all + address : NULL;
 }

@@ -7,11 +7,12 @@
 #define B xi_book
 #define S xi_state
 
-enum { MOST_IN_BURST = 64, ROUND = 8 };
+enum { MOST_IN_BURST = 64, ROUND = 8, MOST_STEPS = X_KINDS + 1 };
 static struct saved first_round; /* before the request that begins round 1 */
 static uint64_t random_state;
 struct pct xi_pct;
-static const int steps[] = { NIC_TXTAKE, NIC_TXPUT, NIC_RXDATA, NIC_RXDONE, ARRIVAL };
+static int steps[MOST_STEPS]; /* that are drawn: of the engines, and ARRIVAL */
+static unsigned step_count, engine_steps;
 
 static uint64_t draw(void)
 {
@@ -27,47 +28,65 @@ unsigned xi_below(unsigned end)
     return (unsigned)((draw() >> 32) * end >> 32);
 }
 
+/* Takes the steps of the engines from the device. */
+static void know_steps(void)
+{
+    step_count = engine_steps = 0;
+    for (int kind = 0; kind < (int)xi_device->kinds; kind++)
+        if (!xi_is_clock(kind))
+            steps[step_count++] = kind, engine_steps |= 1u << kind;
+    if (xi_device->arrive)
+        steps[step_count++] = ARRIVAL;
+}
+
 /* What would do something here: a bit for each kind of step, and one for ARRIVAL. */
 static unsigned possible_here(void)
 {
-    unsigned engines = xi_possible() & 0xF;
-
-    return engines | (unsigned)(S->offered < S->offers.count) << ARRIVAL;
+    if (!step_count)
+        know_steps();
+    return (xi_possible() & engine_steps) | (unsigned)(S->offered < S->offers.count) << ARRIVAL;
 }
 
 /* Plays each step of an engine, and an arrival of an offered frame, with probability 1/2, in a random order, if it is
  * possible then. */
 static void uniform(void)
 {
-    int order[5];
+    int order[MOST_STEPS];
     uint64_t bits = draw();
     unsigned possible = possible_here();
 
     memcpy(order, steps, sizeof order);
-    for (unsigned n = 4; n > 0; n--) {
+    for (unsigned n = step_count - 1; n > 0; n--) {
         unsigned m = xi_below(n + 1);
         int kept = order[n];
         order[n] = order[m], order[m] = kept;
     }
-    for (int n = 0; n < 5; n++)
+    for (unsigned n = 0; n < step_count; n++)
         if (bits >> n & 1 && possible >> order[n] & 1) {
             xi_deviate(order[n]);
             possible = possible_here();
         }
 }
 
-/* Some of the actors do all their work, at most 64 steps in all. The actors are the fetching of frames, the putting of
- * frames, the receive engine, and the wire. */
+/* The actor of bursts to which a step belongs. Of the 82540EM: the fetching of frames, the putting of frames, the receive
+ * engine, and the wire. Of another device: the engine, or the wire. */
+static unsigned actor_of(int step)
+{
+    static const unsigned of_nic[] = { 0, 1, 2, 2 };
+
+    return step == ARRIVAL ? xi_is_nic() ? 3 : X_KINDS : xi_is_nic() ? of_nic[step] : xi_device->engines[step];
+}
+
+/* Some of the actors do all their work, at most 64 steps in all. */
 static void burst(void)
 {
-    static const int actor[] = { 0, 1, 2, 2, 3 };
     uint64_t who = draw();
 
     for (int n = 0; n < MOST_IN_BURST; n++) {
         unsigned possible = possible_here();
-        int working[5], count = 0;
-        for (int k = 0; k < 5; k++)
-            if (who >> actor[k] & 1 && possible >> steps[k] & 1)
+        int working[MOST_STEPS], count = 0;
+        for (unsigned k = 0; k < step_count; k++)
+            if (who >> actor_of(steps[k]) & 1 && possible >> steps[k] & 1)
                 working[count++] = steps[k];
         if (!count)
             return;
@@ -75,27 +94,32 @@ static void burst(void)
     }
 }
 
-/* Draws whether the handler cuts in here, or is put off, and the answer to x_choose. */
-static void draw_interrupt(void)
+/* Draws whether the handler cuts in here, or is put off. Returns whether it cuts in: then this place comes again. */
+static bool draw_interrupt(void)
 {
-    if (B->event == CHOOSE && B->address > 1) {
-        unsigned choice = xi_below((unsigned)B->address);
-        if (choice)
-            xi_choose(choice);
-    } else if (B->event == CALL && draw() % 4 == 0)
+    if (B->event == CALL && draw() % 4 == 0)
         xi_deviate(LATE_IRQ);
-    else if (xi_may_cut_in() && draw() & 1)
-        xi_deviate(IRQ);
+    return xi_may_cut_in() && draw() & 1 && xi_deviate(IRQ);
+}
+
+/* Draws the answer to x_choose, and, with holds, whether the step of x_step is left out. */
+static void draw_answer(bool with_holds)
+{
+    bool is_step = B->event == STEP && B->address < xi_device->kinds && xi_possible() >> B->address & 1;
+    unsigned choice = B->event == CHOOSE ? xi_below((unsigned)B->address) : 0;
+
+    if (choice)
+        xi_choose(choice);
+    else if (with_holds && is_step && draw() % 4 == 0)
+        xi_deviate(HOLD_STEP);
 }
 
 /* With holds, a step of the EEPROM or of the PHY may also be early. */
 static void draw_fast(void)
 {
-    if (B->event == STEP && draw() % 4 == 0)
-        xi_deviate(HOLD_STEP);
-    for (uint32_t kind = NIC_EEPROM; kind <= NIC_PHY; kind++)
-        if (B->event != CALL && B->event != PAUSE && xi_possible() >> kind & 1 && draw() % 4 == 0)
-            xi_deviate((int)kind);
+    for (unsigned n = 0; n < xi_clocks; n++)
+        if (B->event != CALL && B->event != PAUSE && xi_possible() >> xi_clock[n] & 1 && draw() % 4 == 0)
+            xi_deviate((int)xi_clock[n]);
 }
 
 static void draw_here(uint64_t seed)
@@ -115,12 +139,12 @@ static void draw_here(uint64_t seed)
 
 static void draw_holds(void)
 {
-    for (; B->stage < STAGES; B->stage++)
-        if (xi_possible() >> (NIC_EEPROM + B->stage) & 1) {
+    for (; B->stage < xi_clocks; B->stage++)
+        if (xi_possible() >> xi_clock[B->stage] & 1) {
             if (draw() & 1)
-                xi_deviate(HOLD_EEPROM + B->stage);
+                xi_deviate((int)(HOLD + B->stage));
             else
-                xi_play((uint32_t)(NIC_EEPROM + B->stage));
+                xi_play(xi_clock[B->stage]);
         }
 }
 
@@ -150,12 +174,13 @@ void xi_set_pct(unsigned depth)
     to_first_round(false);
     for (before = B->places + B->moves; B->event != ENDED; xi_next_place())
         xi_tick();
-    xi_pct = (struct pct){ depth, PCT_ACTORS - !S->offers.count, B->places + B->moves - before };
+    xi_pct = (struct pct){ depth, PCT_ACTORS - !xi_has_offered - !xi_has_handler, B->places + B->moves - before };
 }
 
 /* Plays the run of a seed. With --pct, deviations are drawn by priorities. Otherwise, an even seed draws steps before
  * each access, and an odd seed draws a burst before an access with probability 1/16. Before a request, both draw with
- * an eighth of their probability. */
+ * an eighth of their probability. A handler that may cut in does so with probability 1/2, and is late with probability
+ * 1/4. Answers to x_choose are drawn evenly. Up to round 1, only holds are drawn. */
 void xi_draw(uint64_t seed, bool with_holds, bool is_new)
 {
     random_state = seed * 0x2545F4914F6CDD1D;
@@ -175,16 +200,16 @@ void xi_draw(uint64_t seed, bool with_holds, bool is_new)
         xi_tick();
         if (xi_searches)
             xi_digest(); /* this also clears what a search clears */
-        if (xi_pct.depth)
-            xi_pct_here();
-        else
-            draw_here(seed), draw_interrupt();
+        if (!xi_pct.depth)
+            draw_here(seed);
+        if (!(xi_pct.depth ? xi_pct_here() : draw_interrupt()))
+            draw_answer(with_holds);
     }
 }
 
-static bool is_hold(const struct deviation *one, int stage)
+static bool is_hold(const struct deviation *one, unsigned stage)
 {
-    return one->action == HOLD_EEPROM + stage;
+    return one->action == (int)(HOLD + stage);
 }
 
 static bool is_here(const struct deviation *one)
@@ -230,14 +255,14 @@ static unsigned play_here(const struct deviation *path, unsigned at, unsigned co
         end++;
     for (unsigned n = at; lack && !lack->text[0] && n < end; n++)
         compare_place(&path[n], lack);
-    for (; B->stage < STAGES; B->stage++) {
+    for (; B->stage < xi_clocks; B->stage++) {
         bool is_held = false;
         for (unsigned n = at; n < end; n++)
             is_held |= is_hold(&path[n], B->stage);
-        if (is_held && xi_possible() >> (NIC_EEPROM + B->stage) & 1)
-            xi_deviate(HOLD_EEPROM + B->stage);
-        else if (xi_possible() >> (NIC_EEPROM + B->stage) & 1)
-            xi_play((uint32_t)(NIC_EEPROM + B->stage));
+        if (is_held && xi_possible() >> xi_clock[B->stage] & 1)
+            xi_deviate((int)(HOLD + B->stage));
+        else if (xi_possible() >> xi_clock[B->stage] & 1)
+            xi_play(xi_clock[B->stage]);
     }
     for (unsigned n = at; n < end; n++)
         if (!is_hold(&path[n], 0) && !is_hold(&path[n], 1))
@@ -308,16 +333,17 @@ static bool join(struct found *found, unsigned first, unsigned second, int pair)
  * the schedule is shorter. */
 static bool join_one(struct found *found)
 {
-    static const int pairs[][3] = { { NIC_TXTAKE, NIC_TXPUT, TX }, { NIC_RXDATA, NIC_RXDONE, RX } };
-
-    for (unsigned first = 0; first < found->count; first++) {
-        int kind = found->path[first].action == NIC_TXTAKE ? 0 : found->path[first].action == NIC_RXDATA ? 1 : 2;
-        unsigned second = first + 1;
-        while (kind < 2 && second < found->count && found->path[second].action != pairs[kind][1])
-            second++;
-        if (kind < 2 && second < found->count && join(found, first, second, pairs[kind][2]))
-            return true;
-    }
+    for (unsigned first = 0; first < found->count; first++)
+        for (int n = 0; n < PAIRS; n++) {
+            const struct x_pair *pair = &xi_device->pairs[n];
+            unsigned second = first + 1;
+            if (!pair->name || found->path[first].action != (int)pair->first)
+                continue;
+            while (second < found->count && found->path[second].action != (int)pair->second)
+                second++;
+            if (second < found->count && join(found, first, second, PAIR + n))
+                return true;
+        }
     return false;
 }
 

@@ -48,7 +48,7 @@ static bool write_all(int to, const void *bytes, size_t size)
 }
 
 /* Forks a process that doesn't outlive this one. */
-static pid_t forked(void)
+pid_t xi_forked(void)
 {
     pid_t parent = getpid(), child;
 
@@ -84,7 +84,7 @@ static struct answer answer_to(const struct request *request, const struct devia
 
     if (pipe(pipes))
         xi_die("a pipe can't be made");
-    if (!(child = forked())) {
+    if (!(child = xi_forked())) {
         struct outcome outcome;
         xi_is_fresh = true, xi_limit_time();
         outcome = play(request, path);
@@ -122,7 +122,7 @@ void xi_fresh_begin(void)
 
     if (pipe(requests) || pipe(answers))
         xi_die("a pipe can't be made");
-    if (!(server = forked())) {
+    if (!(server = xi_forked())) {
         setpgid(0, 0);
         signal(SIGINT, SIG_IGN), signal(SIGTERM, SIG_IGN), signal(SIGHUP, SIG_IGN);
         close(requests[1]), close(answers[0]);
@@ -160,6 +160,21 @@ static struct outcome endless(void)
     return outcome;
 }
 
+/* The outcome in an answer, also of a process that a signal has ended */
+static struct outcome outcome_of(const struct answer *answer)
+{
+    struct outcome outcome = { .fails = true };
+
+    if (answer->is_there)
+        return answer->outcome;
+    if (WIFEXITED(answer->status) && WEXITSTATUS(answer->status) == NOT_RUN)
+        exit(NOT_RUN); /* it has printed why */
+    if (!WIFSIGNALED(answer->status))
+        xi_die("the test ends its process");
+    snprintf(outcome.fault, sizeof outcome.fault, "ended by SIG%s", xi_signal(WTERMSIG(answer->status)));
+    return outcome;
+}
+
 static struct outcome ask(const struct request *request, const struct deviation *path)
 {
     static struct outcome last;
@@ -173,21 +188,20 @@ static struct outcome ask(const struct request *request, const struct deviation 
         return last = endless();
     if (!read_all(from_server, &answer, sizeof answer))
         xi_die("the process that plays runs from nothing has ended");
-    if (!answer.is_there && WIFEXITED(answer.status) && WEXITSTATUS(answer.status) == NOT_RUN)
-        exit(NOT_RUN); /* it has printed why */
-    if (!answer.is_there && WIFSIGNALED(answer.status)) {
-        last = (struct outcome){ .fails = true };
-        snprintf(last.fault, sizeof last.fault, "ended by SIG%s", xi_signal(WTERMSIG(answer.status)));
-        return last;
-    }
-    if (!answer.is_there)
-        xi_die("the test ends its process");
-    return answer.outcome;
+    return last = outcome_of(&answer);
 }
 
 struct outcome xi_fresh_play(const struct deviation *path, unsigned count)
 {
     return ask(&(struct request){ .count = count }, path);
+}
+
+/* Plays a schedule in a process that is forked from this one. This one must not have played a run. */
+struct outcome xi_fresh_apart(const struct deviation *path, unsigned count)
+{
+    struct answer answer = answer_to(&(struct request){ .count = count }, path);
+
+    return outcome_of(&answer);
 }
 
 struct outcome xi_fresh_draw(uint64_t seed)

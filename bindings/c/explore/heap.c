@@ -172,3 +172,17 @@ void xi_free(void *at)
     heap->free[kept.class] = block;
     unlock();
 }
+
+/* Frees pages of mmap: a whole block, or a part of one, whose bytes are set to 0 and aren't served again. Does nothing
+ * to pages that main has mapped: nobody uses them again in this run, and the next run has them again. */
+void xi_unmap(void *at, size_t size)
+{
+    const struct head *head = (const struct head *)at - 1;
+
+    if (!is_tests(at) || at == (void *)tests || (size_t)(tests->end - (char *)at) < size)
+        return;
+    if (head->size == size && head->class < CLASSES && head->shift)
+        xi_free(at);
+    else
+        memset(at, 0, size);
+}

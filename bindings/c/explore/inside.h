@@ -10,13 +10,20 @@ enum {
     PAGE = 4096, MOST_AREAS = 128, MOST_FRAMES = 256, MOST_BYTES = 1 << 17, MOST_PATH = 1024, LONGEST = 1518,
     MOST_OPTIONS = 32, MOST_ANSWERS = 16, MOST_PLACES = 100000
 };
-/* What may be done before an access or a request: steps (NIC_TXTAKE to NIC_PHY), and these. DEFAULT is no deviation. */
-enum { TX = NIC_PHY + 1, RX, HOLD_EEPROM, HOLD_PHY, ARRIVAL, IRQ, LATE_IRQ, HOLD_STEP, CHOICE, ACTIONS, DEFAULT = -1 };
-/* The kinds of places. LINE: the test looks at the line. CALL: the handler is about to cut in after an access. PAUSE: in
- * x_settle, after a step that asserts the line. These three have no number of their own in a round: they are counted
- * after the last access, such as 4.5+1. From ARRIVE on, requests begin rounds. */
-enum event { READ, WRITE, LOAD, STORE, TOUCH, CHOOSE, LINE, CALL, PAUSE, ARRIVE, STEP, SETTLE, OFFER, ENDED };
-enum { STAGES = 2 }; /* default steps of a place: of the EEPROM and of the PHY */
+/* What may be done before an access or a request: steps of the device, by their kinds; pairs of them; holds of its clocks;
+ * and what follows. DEFAULT is no deviation. */
+enum { PAIRS = 2, CLOCKS = 2 };
+enum {
+    PAIR = X_KINDS, HOLD = PAIR + PAIRS, ARRIVAL = HOLD + CLOCKS, IRQ, LATE_IRQ, HOLD_STEP, CHOICE, ACTIONS, DEFAULT = -1
+};
+/* The kinds of places. LINE: the test looks at the line. INTERRUPTS_OFF to HANDLER_ON: the handler is kept out, let in,
+ * removed, or given. CALL: the handler is about to cut in after an access. PAUSE: in x_settle, after a step that asserts
+ * the line. From LINE to PAUSE, a place has no number of its own in a round: it is counted after the last access, such
+ * as 4.5+1. From ARRIVE on, requests begin rounds. */
+enum event {
+    READ, WRITE, LOAD, STORE, TOUCH, CHOOSE, LINE, INTERRUPTS_OFF, INTERRUPTS_ON, HANDLER_OFF, HANDLER_ON, CALL, PAUSE,
+    ARRIVE, STEP, SETTLE, OFFER, ENDED
+};
 enum { PASSES, FOUND, USAGE, NOT_RUN, NOTHING, DIFFERS };
 
 struct digest {
@@ -54,7 +61,8 @@ struct book {
     unsigned round, access, sub, places;
     unsigned moves; /* steps of engines, and arrivals of offered frames, that did something */
     unsigned path_count, did; /* deviations; those that did something */
-    int stage, last;                         /* default steps so far; 1 + the last action at this place, or 0 */
+    unsigned stage;                          /* default steps so far, of the clocks of the device */
+    int last;                                /* 1 + the last action at this place, or 0 */
     enum event event;
     bool is_sending; /* a transmit descriptor was stored, and TDT wasn't written since */
     uint64_t address, history; /* of the place, or how many answers it has; a hash of all answers so far */
@@ -73,9 +81,13 @@ struct area {
 /* What is saved and compared, in addition to the memory of the test and of the adapter. */
 struct state {
     struct nic82540em nic;
+    uint8_t *host; /* the host's memory of another device */
     size_t heap_used, memory_used, last_block, before_last; /* last_block: where the last one begins */
     const char *fault;
-    uint64_t signal_mask; /* of the test */
+    uint64_t blocked, pending; /* signals of the test: bit 0 is for signal 1 */
+    uint64_t chosen, ignored;  /* those for which the test has set whether they are ignored, and that are */
+    unsigned handlers; /* that run: above 1 if a handler lets itself in */
+    void *handler_frame; /* of the first of them */
     void (*handler)(void);
     bool takes_none; /* whether the handler is kept out */
     bool cuts_in;    /* the handler cuts in before this access, or between two steps of x_settle */
@@ -115,6 +127,7 @@ struct saved {
     char *bytes;
     size_t room;
     int pages;
+    unsigned path_count;
     void *top;
 };
 
@@ -131,6 +144,7 @@ extern bool xi_saves; /* whether states can be saved: else each run begins from 
 extern bool xi_is_history_needless; /* whether no answers of runs are compared */
 extern bool xi_has_touched; /* whether the driver has said by x_touch that it accesses memory */
 extern bool xi_has_handler; /* whether the test has given a handler that cuts in */
+extern bool xi_has_offered, xi_has_chosen; /* whether it has offered a frame, or called x_choose */
 
 /* memory.c: the test's memory, and what runs have written of it */
 extern struct own *xi_own;
@@ -151,6 +165,7 @@ void *xi_alloc(size_t size, size_t align);
 size_t xi_alloc_size(const void *block);
 bool xi_alloc_is_zero(const void *block);
 void xi_free(void *block);
+void xi_unmap(void *at, size_t size);
 void xi_watch_heap(void);
 
 /* calls.c: system calls of the test, and signals */
@@ -176,6 +191,8 @@ int xi_pages(void);
 /* switch.c: the test runs on a stack of its own */
 void xi_start(void (*function)(void));
 void xi_to_test(void);
+void xi_handler_begins(void);
+void xi_handler_ends(void);
 void xi_clear_stack(void);
 void xi_clear_below(void);
 void xi_to_explorer(void);
@@ -192,15 +209,41 @@ void xi_next_place(void);
 unsigned xi_play(uint32_t kind);
 unsigned xi_possible(void);
 struct digest xi_adapter(void);
-bool xi_may_cut_in(void);
+void xi_leave(enum event event, uint64_t address);
+void xi_back(void);
+void xi_need(bool is_right, const char *fault);
 _Noreturn void xi_end(const char *fault);
 bool xi_deviate(int action);
 bool xi_choose(unsigned choice);
 void xi_tick(void);
 uint64_t xi_answer(uint64_t value);
-void xi_cut_in(void);
-void xi_add_frame(struct frames *frames, const void *bytes, size_t count, uint32_t fate);
 struct outcome xi_outcome(void);
+
+/* interrupts.c: where the handler cuts in */
+void xi_at_place(enum event event, uint64_t address);
+bool xi_may_cut_in(void);
+void xi_cut_in(void);
+
+/* frames.c: the frames of a run */
+void xi_add_frame(struct frames *frames, const void *bytes, size_t count, uint32_t fate);
+size_t xi_take_frame(const struct frames *frames, unsigned number, void *into, size_t room);
+
+/* device.c and nic.c: the device that is searched */
+extern const struct x_device *xi_device, xi_nic;
+extern unsigned xi_clocks, xi_clock[CLOCKS]; /* the kinds of the steps that are taken by default: their number, and each */
+extern int xi_actors[ACTIONS];               /* of actions; -1: its place among others of the same place matters */
+extern uint32_t xi_outcome_of_step;          /* of the adapter's last step */
+bool xi_is_nic(void);
+void xi_know_device(void);
+bool xi_is_clock(int action);
+bool xi_is_pair(int first, int second);
+void xi_start_device(void);
+struct digest xi_device_digest(void);
+uint8_t *xi_host(uint64_t *size);
+bool xi_load(uint64_t address, void *into, size_t count);
+bool xi_store(uint64_t address, const void *bytes, size_t count);
+const char *xi_register(uint32_t offset);
+const char *xi_memory_name(uint64_t address);
 
 /* dead.c: what nobody uses again */
 extern bool xi_reads_dead; /* whether a run may have read any of this: then nothing is cleared */
@@ -213,9 +256,25 @@ void xi_dead_written(uint64_t address, uint64_t count);
 void xi_dead_before(uint32_t kind);
 void xi_dead_after(uint32_t kind, uint32_t outcome);
 
+/* Clears what calls have left below the frame of this function, on the stack of the test. Functions use it before they
+ * call one that may leave the test: bytes of its frame that nobody uses would make states different. */
+static inline void xi_clean(void)
+{
+#ifdef __x86_64__
+    uint64_t words = 64, zero = 0;
+    char *at;
+
+    if (xi_searches)
+        __asm__ volatile("lea -512(%%rsp), %0\n rep stosq" : "=&D"(at), "+c"(words), "+a"(zero) : : "memory");
+#elif defined(__aarch64__)
+    __asm__ volatile("sub x9, sp, #512\n1: stp xzr, xzr, [x9], #16\n cmp sp, x9\n b.hi 1b\n" : : : "x9", "cc", "memory");
+#endif
+}
+
 /* names.c: the text of schedules */
-extern const char *const xi_actions[ACTIONS];
+extern const char *xi_actions[ACTIONS];
 struct place xi_place(void);
+uint32_t xi_first_of_table(uint32_t offset);
 void xi_name(char *into, size_t room, const struct place *place);
 void xi_text(char *into, size_t room, const struct deviation *one);
 void xi_print(FILE *file, const struct deviation *path, unsigned count);
@@ -229,8 +288,20 @@ void xi_log_value(uint32_t value);
 void xi_log_bytes(const void *bytes, size_t count);
 void xi_log_touch(uint64_t address);
 void xi_log_request(const char *result);
-void xi_log_handler(bool begins);
+void xi_log_handler(const char *what, bool is_deviation);
 void xi_log_step(const char *action, const char *result, bool is_deviation);
+
+/* html.c: the page of a run, with --html. log.c calls the functions of the steps while there is a file for them. */
+extern FILE *xi_html_steps;
+void xi_html_value(uint32_t value);
+void xi_html_bytes(const void *bytes, size_t count);
+void xi_html_touch(const uint8_t *bytes, size_t count);
+void xi_html_request(const char *result);
+void xi_html_handler(const char *what, bool is_deviation);
+void xi_html_step(const char *action, const char *result, bool is_deviation);
+void xi_html_begin(void);
+extern const char xi_page_head[], xi_page_middle[], xi_page_end[]; /* page.c */
+int xi_html_end(int status);
 
 /* search.c and draw.c */
 enum { EVERY = -1, DEEPEST = 16 };
@@ -240,11 +311,13 @@ struct found { /* what a search has shown */
     size_t states;
     bool is_complete; /* all schedules were tried */
     bool differs; /* this run differs from that of the same schedule from nothing, which has the fault `fresh` */
+    bool is_known; /* or it leads through a known state, and fails */
     unsigned count;
     struct deviation path[MOST_PATH];
     char fault[128], fresh[128];
 };
 extern uint64_t xi_repeated; /* runs of searches that were played again from nothing */
+extern uint64_t xi_played_on; /* runs that were played on from known states */
 void xi_explore(int depth, bool with_holds, bool finds_all, size_t most_states, struct found *found);
 void xi_keep(struct found *found);
 unsigned xi_below(unsigned end);
@@ -269,32 +342,45 @@ extern struct given {
     uint64_t runs, seed, states;
     unsigned pct, seconds;
     bool holds, json, check, again, pipe, all, log;
-    const char *replay, *out, *serve;
+    const char *replay, *out, *serve, *html;
 } xi_given;
 extern char xi_command[1024]; /* the words of the test */
 void xi_take_words(int count, char **words);
 
 /* pct.c: draws by priorities */
-enum { PCT_ACTORS = 5 };
+enum { PCT_ACTORS = 6 };
 double xi_bound(void);
 void xi_pct_begin(unsigned depth, unsigned events);
-void xi_pct_here(void);
+bool xi_pct_here(void);
 
 /* fresh.c: runs in memory as it was before the first run */
 extern bool xi_is_fresh; /* whether this process plays one such run */
 void xi_fresh_begin(void);
 struct outcome xi_fresh_play(const struct deviation *path, unsigned count);
 struct outcome xi_fresh_draw(uint64_t seed);
+pid_t xi_forked(void);
+struct outcome xi_fresh_apart(const struct deviation *path, unsigned count);
 
 /* seen.c: what the runs have seen */
 void xi_see_ring(bool sends, bool is_step);
 void xi_see_fate(uint32_t fate);
 void xi_see_handler(bool in_send);
+void xi_see_place(void);
+void xi_see_deviation(void);
 void xi_say_seen(void);
+void xi_print_seen(void);
+
+/* untold.c: stores in the host's memory that no access has told */
+extern bool xi_watches_host; /* whether they are looked for */
+void xi_tell_store(bool is_store, uint64_t address);
+void xi_stop_host(void);
+void xi_go_host(bool asks);
+const char *xi_untold(void);
 
 /* kinds.c: schedules and seeds that fail */
 void xi_add_failed(const struct deviation *path, unsigned count, const char *fault);
 void xi_add_seed(uint64_t seed, const char *fault);
+void xi_without_slot(char *name);
 void xi_print_kinds(void);
 void xi_print_failed(void);
 uint64_t xi_failed(void);
@@ -331,8 +417,14 @@ bool xi_is_late(void);
 int xi_stopped(void);
 const char *xi_why(void);
 
-/* signals.c: names of signals */
+/* signals.c: names of signals, and those that the test sends to itself */
 const char *xi_signal(int number);
+const char *xi_ended_by(int number);
+void xi_know_action(int number, const void *handler);
+long xi_send_signal(long number);
+long xi_mask_call(const long *words);
+bool xi_is_action_known(const long *words);
+long xi_action_call(const long *words);
 
 /* confirm.c: schedules that are played by `nicbench serve` */
 const char *xi_confirm(const char *program, const struct deviation *path, unsigned count, char *fault, size_t room);

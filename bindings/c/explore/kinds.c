@@ -30,7 +30,7 @@ static void append(char **text, const char *more)
 }
 
 /* Leaves the slot out of the name of a place, or writes `memory` in place of an address. */
-static void without_slot(char *name)
+void xi_without_slot(char *name)
 {
     char *slot = strchr(name, '['), *end = slot ? strchr(slot, ']') : NULL, *address = strstr(name, " 0x");
 
@@ -48,7 +48,7 @@ static char *line_of(const struct deviation *path, unsigned count, bool is_kind)
     append(&line, count ? "" : "no deviation");
     for (unsigned n = 0; n < count; n++) {
         xi_name(name, sizeof name, &path[n].before);
-        without_slot(name);
+        xi_without_slot(name);
         if (is_kind)
             snprintf(text, sizeof text, "%s before %s", xi_actions[path[n].action], name);
         else

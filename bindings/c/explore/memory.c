@@ -1,9 +1,11 @@
 /* Which memory is the test's, and what runs have changed of it.
  *
- * The test's memory is all that the process can write when the search begins, except what the explorer, the loader of
- * shared objects and the kernel keep for themselves: static variables of the program and of each shared object, among
- * them the C library's, thread-local variables, memory of malloc, and the frames of the functions that have called the
- * explorer. It also has the arena, which states.c adds.
+ * The test's memory is all that the process can write when the search begins, except the explorer's variables and
+ * frames, and what the kernel writes for the thread by itself: static variables of the program and of each shared
+ * object, thread-local variables, what the C library keeps for each thread (values of pthread_setspecific, whether the
+ * thread may be cancelled), memory of malloc, mmap and sbrk, and the frames of the functions that have called the
+ * explorer. It also has the arena, which states.c adds. Other threads would change memory at any time, so a process
+ * that has some is refused.
  *
  * Whole pages of it are protected. The first write to a page is a fault: its handler copies the page, notes it as
  * written, and allows writes. What shares its page with memory of the explorer or of the kernel can't be protected.
@@ -12,16 +14,13 @@
  */
 #define _GNU_SOURCE
 #include "inside.h"
-#include <dirent.h>
 #include <fcntl.h>
-#include <link.h>
 #include <stdlib.h>
 #include <string.h>
-#include <sys/auxv.h>
 #include <sys/mman.h>
 #include <unistd.h>
 
-enum { MOST_RANGES = 256, MOST_PARTS = 2 * MOST_RANGES, MOST_LINES = 1 << 18 };
+enum { MOST_RANGES = 256, MOST_PARTS = 2 * MOST_RANGES, MOST_LINES = 1 << 18, LEAST_RSEQ = 32, OF_THREAD = 256 };
 #define PAGES_OF(size) (((size) + PAGE - 1) / PAGE)
 
 /* Bytes from `from` up to `to` */
@@ -29,10 +28,11 @@ struct range {
     char *from, *to;
 };
 
-/* Pages that are protected until they are written */
+/* Pages that are protected until they are written, and then have these kinds of access */
 struct watched {
     struct range range;
     uint8_t *is_own;
+    int kinds;
 };
 
 struct own *xi_own;
@@ -42,6 +42,7 @@ static struct own parts[MOST_PARTS]; /* what can't be protected, until it is wri
 static int watched_count, part_count, own_room;
 static char *copies, *copies_end; /* room for copies of pages */
 static char *callers;             /* the end of the explorer's frames on the stack of its caller */
+static int kinds_of_pages = PROT_READ | PROT_WRITE; /* of those that are watched next */
 
 /* The variables of the explorer: bindings/c/explore/build puts them in these sections. */
 extern char __start_xi_data[], __stop_xi_data[], __start_xi_bss[], __stop_xi_bss[];
@@ -125,14 +126,21 @@ bool xi_is_first_write(const void *address)
                 return false;
             one->is_own[page] = 1;
             add_own(&(struct own){ .at = at, .size = PAGE, .base = kept(at, PAGE) });
-            return mprotect(at, PAGE, PROT_READ | PROT_WRITE) == 0;
+            if (mprotect(at, PAGE, one->kinds))
+                xi_die("memory is refused: runs write to too many pages");
+            return true;
         }
     return false;
 }
 
-/* Finds the parts that were written since the last call. They are compared, since they can't be protected. */
+/* Finds the parts that the test has written since the last call. They are compared, since they can't be protected. */
 void xi_find_written(void)
 {
+    static unsigned looked = -1u;
+
+    if (looked == xi_entries)
+        return;
+    looked = xi_entries;
     for (int n = 0; n < part_count; n++)
         if (memcmp(parts[n].at, parts[n].base, parts[n].size)) {
             add_own(&parts[n]);
@@ -159,9 +167,9 @@ static void watch_pages(char *from, char *to)
     is_own = xi_map((size_t)(to - from) / PAGE);
     if (watched_count == MOST_RANGES)
         xi_die("the program's memory has more than 256 ranges");
-    if (!is_own || mprotect(from, (size_t)(to - from), PROT_READ))
+    if (!is_own || mprotect(from, (size_t)(to - from), kinds_of_pages & ~PROT_WRITE))
         xi_die("memory is refused");
-    watched[watched_count++] = (struct watched){ { from, to }, is_own };
+    watched[watched_count++] = (struct watched){ { from, to }, is_own, kinds_of_pages };
 }
 
 /* From now on, notes which of these bytes are written. */
@@ -187,50 +195,28 @@ void xi_to_base(void)
 
 /* The memory of the program */
 
-/* Ranges of the objects that are loaded */
-struct ranges {
-    struct range at[MOST_RANGES];
-    int count;
-};
+/* Where the C library has registered what the kernel writes for each thread: on which processor it runs. Others don't
+ * register it. */
+extern const ptrdiff_t __rseq_offset __attribute__((weak));
+extern const unsigned __rseq_size __attribute__((weak));
 
-static struct ranges segments, thread_locals; /* what each object can write; its variables of this thread */
-/* Whether there are other threads, which wait. Some mapping has what the kernel writes for them. */
-static bool has_threads;
-static struct range loader;
-
-static void add_range(struct ranges *ranges, char *from, size_t size)
+static struct range kernels(void)
 {
-    if (ranges->count == MOST_RANGES)
-        xi_die("the program has more than 256 shared objects");
-    ranges->at[ranges->count++] = (struct range){ from, from + size };
+    char *at = __builtin_thread_pointer();
+    size_t size = &__rseq_size && &__rseq_offset ? __rseq_size : 0;
+
+    if (!size)
+        return (struct range){ NULL, NULL };
+    at += __rseq_offset;
+    return (struct range){ at, at + (size + LEAST_RSEQ - 1) / LEAST_RSEQ * LEAST_RSEQ };
 }
 
-static int add_object(struct dl_phdr_info *info, size_t size, void *word)
-{
-    char *base = (char *)info->dlpi_addr;
-    bool is_loader = base && info->dlpi_addr == getauxval(AT_BASE);
-
-    (void)size, (void)word;
-    for (int n = 0; n < info->dlpi_phnum; n++) {
-        const ElfW(Phdr) *part = &info->dlpi_phdr[n];
-        char *from = base + part->p_vaddr, *to = from + part->p_memsz;
-        if (part->p_type == PT_LOAD && is_loader) {
-            loader.from = !loader.from || from < loader.from ? from : loader.from;
-            loader.to = to > loader.to ? to : loader.to;
-        } else if (part->p_type == PT_LOAD && part->p_flags & PF_W)
-            add_range(&segments, from, part->p_memsz);
-        else if (part->p_type == PT_TLS && info->dlpi_tls_data && !is_loader)
-            add_range(&thread_locals, info->dlpi_tls_data, part->p_memsz);
-    }
-    return 0;
-}
-
-/* Watches bytes, except the explorer's variables. */
+/* Watches bytes, except the explorer's variables and the kernel's. */
 static void watch_without_own(char *from, char *to)
 {
-    const struct range own[] = { { __start_xi_data, __stop_xi_data }, { __start_xi_bss, __stop_xi_bss } };
+    const struct range own[] = { { __start_xi_data, __stop_xi_data }, { __start_xi_bss, __stop_xi_bss }, kernels() };
 
-    for (int n = 0; n < 2; n++)
+    for (size_t n = 0; n < sizeof own / sizeof *own; n++)
         if (own[n].from < to && from < own[n].to) {
             if (from < own[n].from)
                 watch_without_own(from, own[n].from);
@@ -241,41 +227,31 @@ static void watch_without_own(char *from, char *to)
     xi_watch(from, to);
 }
 
-/* Watches those of the ranges that are in this one. */
-static void watch_those_in(const struct ranges *ranges, const struct range *all)
+/* Watches bytes. On x86-64, thread-local variables end where the thread pointer points. Each run writes to some of
+ * them, such as errno: so they are watched apart from what is around them, and less is copied. */
+static void watch_apart(char *from, char *to)
 {
-    for (int n = 0; n < ranges->count; n++) {
-        char *from = ranges->at[n].from > all->from ? ranges->at[n].from : all->from;
-        char *to = ranges->at[n].to < all->to ? ranges->at[n].to : all->to;
-        if (from < to)
-            watch_without_own(from, to);
+    char *end = __builtin_thread_pointer(), *begin = end - OF_THREAD;
+
+    if (begin < from || end > to) {
+        watch_without_own(from, to);
+        return;
     }
+    watch_without_own(from, begin), watch_without_own(begin, end), watch_without_own(end, to);
 }
 
-/* Watches what is the test's of memory that the process can write. */
+static bool is_in(const struct range *all, const void *at)
+{
+    return (const char *)at >= all->from && (const char *)at < all->to;
+}
+
+/* Watches what is the test's of memory that the process can write: on the stack, not what is below `callers`. */
 static void watch_mapping(const struct range *all, const char *name)
 {
-    char *thread = __builtin_thread_pointer(), *to = all->to;
-    bool has_thread = thread >= all->from && thread < all->to;
-
-    if (all->from >= (char *)XI_BEGIN && all->from < (char *)XI_END)
-        return;
-    if (all->from >= loader.from && all->from < loader.to)
-        return;
-    if (has_thread) {
-        watch_those_in(&segments, all), watch_those_in(&thread_locals, all);
-        for (int n = 0; n < thread_locals.count; n++)
-            if (thread_locals.at[n].from >= all->from && thread_locals.at[n].from < to)
-                to = thread_locals.at[n].from;
-    }
-    if (callers >= all->from && callers < to)
-        xi_watch(callers, to);
-    else if (has_thread && !has_threads && to < all->to)
-        watch_without_own(all->from, to); /* of mmap: the kernel joins it with the memory of the thread above */
-    else if (!has_thread && has_threads && *name != '/')
-        watch_those_in(&segments, all);
-    else if (!has_thread && strcmp(name, "[stack]"))
-        watch_without_own(all->from, to);
+    if (is_in(all, callers) && strcmp(name, "[stack]") && !is_in(all, __builtin_thread_pointer()))
+        xi_die("it was called on a stack that isn't that of its thread");
+    if (all->from < (char *)XI_BEGIN || all->from >= (char *)XI_END)
+        watch_apart(is_in(all, callers) ? callers : all->from, all->to);
 }
 
 /* Reads a line of /proc/self/maps. Watches its memory, if the process can write it. */
@@ -290,19 +266,26 @@ static void watch_line(char *line)
     name = at ? line + at : line + strlen(line);
     if (kinds[3] == 's')
         xi_die_of("memory that is shared with other processes", name);
+    kinds_of_pages = PROT_READ | PROT_WRITE | (kinds[2] == 'x' ? PROT_EXEC : 0);
     watch_mapping(&(struct range){ (char *)from, (char *)to }, name);
+    kinds_of_pages = PROT_READ | PROT_WRITE;
 }
 
-static bool finds_threads(void)
+/* Whether there are other threads. One that was joined may be counted for a moment. An emulator of the processor has
+ * threads of its own, and gives 0. */
+static bool has_threads(void)
 {
-    DIR *folder = opendir("/proc/self/task");
-    int count = 0;
+    int file = open("/proc/self/stat", O_RDONLY), count = 0;
+    char text[1024], *at;
+    ssize_t size = file < 0 ? -1 : read(file, text, sizeof text - 1);
 
-    while (folder && readdir(folder))
-        count++;
-    if (folder)
-        closedir(folder);
-    return count > 3; /* the folder has two more names: itself, and the one above it */
+    if (file >= 0)
+        close(file);
+    text[size < 0 ? 0 : size] = 0;
+    at = strrchr(text, ')'); /* the name of the program ends here */
+    if (!at || sscanf(at + 1, " %*c%*s%*s%*s%*s%*s%*s%*s%*s%*s%*s%*s%*s%*s%*s%*s%*s%d", &count) != 1)
+        xi_die("/proc/self/stat can't be read");
+    return count > 1;
 }
 
 /* Restores the test's memory as it was before the first run. From now on, it isn't watched. */
@@ -310,8 +293,22 @@ void xi_unwatch(void)
 {
     xi_to_base();
     for (int n = 0; n < watched_count; n++)
-        mprotect(watched[n].range.from, (size_t)(watched[n].range.to - watched[n].range.from), PROT_READ | PROT_WRITE);
+        mprotect(watched[n].range.from, (size_t)(watched[n].range.to - watched[n].range.from), watched[n].kinds);
     watched_count = part_count = xi_own_count = 0;
+}
+
+/* Writes to a watched page of the explorer's own. So the loader of shared objects has found all functions that the
+ * handler of such a write calls, and needn't write down their addresses, in a page that is watched, while it runs. */
+static void rehearse(void)
+{
+    char *page = xi_map(PAGE);
+
+    if (!page)
+        xi_die("memory is refused");
+    xi_watch(page, page + PAGE);
+    *(volatile char *)page = 1;
+    xi_find_written();
+    watched_count = xi_own_count = 0;
 }
 
 /* From now on, notes which memory of the program is written. */
@@ -327,8 +324,12 @@ void xi_watch_program(void)
     if (file < 0 || !text || !count || count == MOST_LINES - 1)
         xi_die("/proc/self/maps can't be read");
     close(file);
-    has_threads = finds_threads();
-    dl_iterate_phdr(add_object, NULL);
+    for (int n = 0; n < 100 && has_threads(); n++)
+        usleep(1000);
+    if (has_threads())
+        xi_die("the process has another thread, which may write memory at any time: search before it is started, or in "
+               "a process of its own");
+    rehearse();
     for (char *line = text; (end = strchr(line, '\n')) != NULL; line = end + 1)
         *end = 0, watch_line(line);
 }

@@ -6,41 +6,9 @@
 #include <sys/stat.h>
 #include <unistd.h>
 
-const char *const xi_actions[ACTIONS] = { "txtake", "txput", "rxdata", "rxdone", "eeprom", "phy", "tx", "rx",
-                                          "hold eeprom", "hold phy", "arrive", "irq", "late irq", "hold step",
-                                          "choose" };
-const char *const xi_outcomes[9] = { "nothing", "took", "put", "wirefull", "part", "moved", "done", "ticked", "fault" };
-const char *const xi_fates[5] = { "off", "illegal", "filtered", "missed", "stored" };
-static const char *const events[] = { "read", "write", "read", "write", "touch", "choose", "line", "handler", "settle",
-                                      "arrive", "step", "settle", "offer" };
-static const struct nic82540em_register registers[] = {
-    { "CTRL", NIC_CTRL },   { "STATUS", NIC_STATUS }, { "EERD", NIC_EERD },   { "MDIC", NIC_MDIC },
-    { "VET", NIC_VET },     { "ICR", NIC_ICR },       { "ICS", NIC_ICS },     { "IMS", NIC_IMS },
-    { "IMC", NIC_IMC },     { "RCTL", NIC_RCTL },     { "TCTL", NIC_TCTL },   { "PBA", NIC_PBA },
-    { "RDBAL", NIC_RDBAL }, { "RDBAH", NIC_RDBAH },   { "RDLEN", NIC_RDLEN }, { "RDH", NIC_RDH },
-    { "RDT", NIC_RDT },     { "TDBAL", NIC_TDBAL },   { "TDBAH", NIC_TDBAH }, { "TDLEN", NIC_TDLEN },
-    { "TDH", NIC_TDH },     { "TDT", NIC_TDT },       { "MPC", NIC_MPC },     { "GPRC", NIC_GPRC },
-    { "GPTC", NIC_GPTC },   { "RNBC", NIC_RNBC },
-};
-static const struct { const char *name; uint32_t from, to, step; } tables[] = {
-    { "MTA", NIC_MTA, NIC_MTA + 512, 4 }, { "RAL", NIC_RAL, NIC_RAL + 128, 8 }, { "RAH", NIC_RAH, NIC_RAH + 128, 8 },
-    { "VFTA", NIC_VFTA, NIC_VFTA + 512, 4 },
-};
-
-static void name_register(char *into, size_t room, const char *verb, uint32_t offset)
-{
-    for (size_t n = 0; n < sizeof registers / sizeof *registers; n++)
-        if (registers[n].offset == offset) {
-            snprintf(into, room, "%s %s", verb, registers[n].name);
-            return;
-        }
-    for (size_t n = 0; n < sizeof tables / sizeof *tables; n++)
-        if (offset >= tables[n].from && offset < tables[n].to && (offset - tables[n].from) % tables[n].step == 0) {
-            snprintf(into, room, "%s %s[%u]", verb, tables[n].name, (offset - tables[n].from) / tables[n].step);
-            return;
-        }
-    snprintf(into, room, "%s register[%#x]", verb, offset);
-}
+static const char *const events[] = { "read", "write", "read", "write", "touch", "choose", "line", "interrupts off",
+                                      "interrupts on", "handler off", "handler on", "handler", "settle", "arrive",
+                                      "step", "settle", "offer" };
 
 /* The access or the request at which the run is. */
 struct place xi_place(void)
@@ -67,7 +35,9 @@ void xi_name(char *into, size_t room, const struct place *place)
     else if (event >= TOUCH)
         snprintf(into, room, "%s", event == ENDED ? "the end" : events[event]);
     else if (event <= WRITE)
-        name_register(into, room, events[event], (uint32_t)place->address);
+        snprintf(into, room, "%s %s", events[event], xi_register((uint32_t)place->address));
+    else if (!place->ring && xi_memory_name(place->address))
+        snprintf(into, room, "%s %s", events[event], xi_memory_name(place->address));
     else if (!place->ring)
         snprintf(into, room, "%s %#llx", events[event], (unsigned long long)place->address);
     else if (byte)

@@ -104,7 +104,10 @@ static int passes(void)
     if (compared || xi_repeated)
         xi_say("%llu drawn runs and %llu runs of the search have the answers of runs from nothing\n",
                (unsigned long long)compared, (unsigned long long)xi_repeated);
-    if (!xi_given.check)
+    if (xi_played_on)
+        xi_say("%llu run%s from known states pass%s\n", (unsigned long long)xi_played_on, plural(xi_played_on),
+               xi_played_on == 1 ? "es" : "");
+    if (!xi_given.check && xi_is_nic())
         xi_say_seen();
     if (xi_has_handler && !xi_has_touched)
         xi_say("the handler cut in at accesses and requests, not between uses of shared variables: x_touch makes these "
@@ -137,7 +140,12 @@ static int wrong_search(void)
 {
     bool is_other = strcmp(found->fault, found->fresh) != 0;
 
-    xi_say("a run of the search %s, but its schedule, played from nothing, %s%s. So this search isn't right. Does the"
+    if (found->is_known)
+        xi_say("a run fails (%s) that leads through a state from which all schedules have passed. So this search isn't "
+               "right: what does the test use that isn't a part of its state? Played from nothing, its schedule %s\n",
+               found->fault, ended_by(found->fresh));
+    else
+        xi_say("a run of the search %s, but its schedule, played from nothing, %s%s. So this search isn't right. Does the"
            " test use a clock, random numbers, or what another process changes?\n", ended_by(found->fault),
            ended_by(found->fresh), is_other ? "" : " with other accesses or answers");
     xi_show();
@@ -387,8 +395,9 @@ static int by_draws(void)
         xi_set_pct(xi_given.pct);
         if (!xi_pct.events)
             return nothing();
-        xi_say("PCT, depth %u: %u events, so a run finds a race of this depth with a probability of at least 1/%.0f\n",
-               xi_pct.depth, xi_pct.events, xi_bound());
+        xi_say("PCT, depth %u: %u actors, %u events: a run of no more events finds a race of this depth%s with a "
+               "probability of at least 1/%.0f\n", xi_pct.depth, xi_pct.actors, xi_pct.events,
+               xi_has_chosen || xi_given.holds ? ", with its answers and holds," : "", xi_bound());
     } else if (xi_given.depth == DRAWN && xi_saves && !xi_given.check && !xi_given.all)
         status = explore_first();
     if (status < 0)
@@ -452,7 +461,9 @@ static int play_first(void)
         return report(0);
     }
     for (int n = 1; n <= 2; n++) {
+        xi_watches_host = n == 1;
         xi_replay(NULL, 0, true, NULL);
+        xi_watches_host = false;
         if (xi_outcome().history != outcome.history)
             return unsaved("the second run isn't as the first one, without any deviation");
     }
@@ -507,10 +518,14 @@ int nic82540em_explore(int count, char **words, const char *(*test)(void *), voi
     xi_explores(true);
     xi_know_thread();
     xi_set_callers(__builtin_dwarf_cfa());
+    xi_know_device();
     xi_take_words(count, words);
+    if (!xi_is_nic() && (xi_given.pct || xi_given.pipe || xi_given.serve))
+        xi_die("--pct, --pipe and --serve are for the 82540EM only");
     xi_set_test(test, argument);
     xi_prints = xi_given.pipe || xi_given.replay;
     xi_open(xi_prints);
+    xi_html_begin();
     if (xi_given.pipe)
         status = xi_pipe();
     else if (xi_given.replay)
@@ -518,6 +533,7 @@ int nic82540em_explore(int count, char **words, const char *(*test)(void *), voi
     else
         status = searched_status(), xi_unwatch();
     xi_end_time();
+    status = xi_html_end(status);
     xi_explores(false);
     return status;
 }

@@ -2,24 +2,28 @@
  *
  * The first priorities are random. At up to `depth` - 1 random events of a run, the actor of the event gets a priority
  * below all first priorities. A driver that polls doesn't starve the other actors: before every fourth read or load of
- * one place in a row, another actor takes a step, if one of them can.
+ * one place in a row, another actor takes a step, if one of them can. The handler is an actor, too: it can go when the
+ * line is asserted, and while it runs, the driver can't go. If the driver has the higher priority, the handler is late:
+ * after one more access, only the handler can go.
  */
 #include "inside.h"
 
 #define B xi_book
 #define S xi_state
 
-enum { DRIVER, RECEIVE, FETCH, PUT, WIRE, PATIENCE = 4 };
+enum { DRIVER, RECEIVE, FETCH, PUT, WIRE, HANDLER, PATIENCE = 4 };
 static unsigned priorities[PCT_ACTORS], change_at[DEEPEST], changes, events, reads;
 static struct place last_read;
 
-/* The step that an actor can take, or DEFAULT if there is none. The driver's is DEFAULT. */
+/* The step that an actor other than the driver can take, or DEFAULT if there is none */
 static int step_of(int actor)
 {
     unsigned possible = xi_possible();
     int step = actor == RECEIVE ? NIC_RXDONE : actor == FETCH ? NIC_TXTAKE : NIC_TXPUT;
 
-    if (actor == DRIVER)
+    if (actor == HANDLER)
+        return xi_may_cut_in() ? IRQ : DEFAULT;
+    if (B->event == PAUSE)
         return DEFAULT;
     if (actor == WIRE)
         return S->offered < S->offers.count ? ARRIVAL : DEFAULT;
@@ -72,7 +76,8 @@ void xi_pct_begin(unsigned depth, unsigned most_events)
     events = reads = 0, last_read.event = ENDED;
 }
 
-/* The actor with the highest priority of those that could take a step; DRIVER if there is none */
+/* The actor with the highest priority of those that could go now instead of the driver or the handler that runs; DRIVER
+ * if there is none */
 static int first_waiting(void)
 {
     int first = DRIVER;
@@ -83,16 +88,26 @@ static int first_waiting(void)
     return first;
 }
 
-/* Plays the steps before the access or the request at which the run is. */
-void xi_pct_here(void)
+/* Plays the steps before the place at which the run is. At the end of an access, puts the handler off, if the driver
+ * goes first. Returns whether the handler cuts in here: then this place comes again. */
+bool xi_pct_here(void)
 {
+    int runs = S->handlers ? HANDLER : DRIVER, first;
     bool must_wait = polls();
-    int first;
 
-    while ((first = first_waiting()) != DRIVER && (must_wait || priorities[first] > priorities[DRIVER])) {
+    if (B->event == CALL) {
+        if (priorities[runs] > priorities[HANDLER])
+            xi_deviate(LATE_IRQ);
+        count(runs);
+        return false;
+    }
+    while ((first = first_waiting()) != DRIVER && (must_wait || priorities[first] > priorities[runs])) {
+        if (first == HANDLER)
+            return xi_deviate(IRQ);
         must_wait = false;
         count(first);
         xi_deviate(step_of(first));
     }
-    count(DRIVER);
+    count(runs);
+    return false;
 }

@@ -33,6 +33,7 @@ static const char *stored(void)
 {
     static char path[4096];
     size_t size = xi_given.out ? strlen(xi_given.out) : 0;
+    void (*before)(int);
     FILE *file;
 
     if (!size)
@@ -40,12 +41,14 @@ static const char *stored(void)
     if (xi_given.out[size - 1] == '/')
         mkdir(xi_given.out, 0777);
     snprintf(path, sizeof path, "%s%s", xi_given.out, xi_given.out[size - 1] == '/' ? "schedule.txt" : "");
+    before = signal(SIGXFSZ, SIG_IGN); /* above a limit of the size of files (RLIMIT_FSIZE), a write is refused */
     file = fopen(path, "w");
     if (!file)
         xi_die("the schedule can't be stored");
     print_schedule(file);
     if (ferror(file) | fclose(file))
         xi_die("the schedule can't be stored");
+    signal(SIGXFSZ, before);
     return path;
 }
 
@@ -81,7 +84,7 @@ void xi_show(void)
     }
     xi_say("%s --replay %s\n", xi_command, path ? path : R.found.count ? "/dev/stdin" : "/dev/null");
     xi_say("For each access:    the same with --log\n");
-    if (xi_has_touched || !is_known_to_server())
+    if (xi_has_touched || !xi_is_nic() || !is_known_to_server())
         return;
     path = path || R.found.count ? path : "/dev/null";
     xi_say("For its chart:      tools/races --replay %s -- %s --pipe   (after ./nicbench --build%s)\n",
@@ -156,6 +159,8 @@ int xi_finish(const char *result, int status)
                xi_pct.actors, xi_pct.events, 1 / xi_bound());
     fprintf(xi_out, ", \"runs\": %llu, \"search\": ", (unsigned long long)R.runs);
     print_search();
+    fprintf(xi_out, ", \"seen\": ");
+    xi_print_seen();
     fprintf(xi_out, ", \"served\": %s}\n", served);
     fflush(xi_out);
     return status;

@@ -16,11 +16,7 @@
 #define B xi_book
 #define S xi_state
 
-enum { MOST_CHOICES = 1 << 19, FIRST_ROOM = 1 << 14, ENDS_APART = 16 };
-/* The actor of each action. Before one access, deviations of different actors can be exchanged, so they are tried only
- * in the order of their actors. */
-static const int actors[ACTIONS] = { 2, 2, 3, 3, -1, -1, 2, 3, 0, 1, 3, 4, 4, 4, 4 };
-
+enum { MOST_CHOICES = 1 << 19, FIRST_ROOM = 1 << 14, ENDS_APART = 16, FIRST_KNOWN = 16, RUNS_EACH = 8, PART_KNOWN = 8 };
 /* What belongs to a choice of the path: its state, its options but the default, and how many schedules below it pass,
  * by numbers of deviations. */
 struct extra {
@@ -36,7 +32,8 @@ static bool is_every, has_holds, goes_on;
 static uint64_t ends, next_end; /* of runs, so far; of them, the next that is played again from nothing */
 static unsigned used_before;    /* what dead.c knew when the search began */
 static bool all_before;
-uint64_t xi_repeated;
+static uint64_t met_count, known_met, played_places; /* choices of runs; known ones; places after these, played on */
+uint64_t xi_repeated, xi_played_on;
 static double failing[DEEPEST + 1]; /* schedules that fail, by their numbers of deviations */
 static struct schedule_known *table;
 static double *table_counts; /* for each entry of the table, the numbers of schedules below it */
@@ -108,14 +105,13 @@ static struct schedule_key key_here(void)
 
 /* Choices of a run */
 
+/* Before one access, deviations of different actors can be exchanged, so they are tried only in the order of their
+ * actors. Two steps that are a pair are tried as the pair. */
 static bool is_after(int last, int action)
 {
-    bool is_fast = last == NIC_EEPROM || last == NIC_PHY || action == NIC_EEPROM || action == NIC_PHY;
-
-    if (last == HOLD_EEPROM || last == HOLD_PHY || is_fast)
+    if (xi_actors[last] < 0 || xi_actors[action] < 0)
         return true;
-    return actors[last] <= actors[action] && !(last == NIC_TXTAKE && action == NIC_TXPUT) &&
-           !(last == NIC_RXDATA && action == NIC_RXDONE);
+    return xi_actors[last] <= xi_actors[action] && !xi_is_pair(last, action);
 }
 
 /* Whether a deviation would do something here */
@@ -130,25 +126,26 @@ static bool is_possible(int action)
     if (B->event == CALL || B->event == PAUSE)
         return false;
     if (action == HOLD_STEP)
-        return has_holds && B->event == STEP && B->address <= NIC_PHY && possible >> B->address & 1;
+        return has_holds && B->event == STEP && B->address < xi_device->kinds && possible >> B->address & 1;
     if (action == ARRIVAL)
         return S->offered < S->offers.count;
-    if ((action == NIC_EEPROM || action == NIC_PHY) && !has_holds)
+    if (action >= PAIR && action < HOLD && !xi_device->pairs[action - PAIR].name)
         return false;
-    return possible >> (action == TX ? NIC_TXTAKE : action == RX ? NIC_RXDATA : action) & 1;
+    if (action >= PAIR && action < HOLD)
+        return possible >> xi_device->pairs[action - PAIR].first & 1;
+    return possible >> action & 1 && (has_holds || !xi_is_clock(action));
 }
 
 /* The deviations that would do something here, and that are tried after the last one at this place. After an interrupt
  * and an answer, none is tried. Returns their number. */
 static int options_here(uint8_t *actions)
 {
-    static const int tried[] = { NIC_EEPROM, NIC_PHY, NIC_TXTAKE, NIC_TXPUT, NIC_RXDATA, NIC_RXDONE, ARRIVAL, TX, RX, IRQ,
-                                 LATE_IRQ, HOLD_STEP };
+    static const int tried[] = { 0, 1, 2, 3, 4, 5, 6, 7, ARRIVAL, PAIR, PAIR + 1, IRQ, LATE_IRQ, HOLD_STEP };
     int count = 0;
 
     for (size_t n = 0; n < sizeof tried / sizeof *tried; n++) {
         int action = tried[n];
-        bool is_tried = is_every ? action != TX && action != RX : !B->last || is_after(B->last - 1, action);
+        bool is_tried = is_every ? action < PAIR || action >= HOLD : !B->last || is_after(B->last - 1, action);
         if (is_tried && is_possible(action))
             actions[count++] = (uint8_t)action;
     }
@@ -169,12 +166,12 @@ static int next_choice(uint8_t *actions)
     for (;;) {
         if (B->event == ENDED)
             return 0;
-        for (; B->stage < STAGES; B->stage++)
-            if (has_holds && xi_possible() >> (NIC_EEPROM + B->stage) & 1) {
-                actions[0] = (uint8_t)(HOLD_EEPROM + B->stage);
+        for (; B->stage < xi_clocks; B->stage++)
+            if (has_holds && xi_possible() >> xi_clock[B->stage] & 1) {
+                actions[0] = (uint8_t)(HOLD + B->stage);
                 return 1;
-            } else if (xi_possible() >> (NIC_EEPROM + B->stage) & 1)
-                xi_play((uint32_t)(NIC_EEPROM + B->stage));
+            } else if (xi_possible() >> xi_clock[B->stage] & 1)
+                xi_play(xi_clock[B->stage]);
         int count = options_here(actions);
         if (count)
             return count;
@@ -185,9 +182,9 @@ static int next_choice(uint8_t *actions)
 /* Takes an option of the choice at which the run is. */
 static void take(int action)
 {
-    if (B->stage < STAGES) {
+    if (B->stage < xi_clocks) {
         if (action == DEFAULT)
-            xi_play((uint32_t)(NIC_EEPROM + B->stage));
+            xi_play(xi_clock[B->stage]);
         else
             xi_deviate(action);
         B->stage++;
@@ -256,6 +253,53 @@ static bool is_end_repeated(struct found *found)
     return false;
 }
 
+/* How many runs are played on from the known state at which the run is: some from each of the first ones, and then as
+ * many in all that a small part of the work of the search is spent on them. */
+static unsigned runs_from_here(void)
+{
+    if (!xi_saves || !search.count)
+        return 0;
+    return ++known_met <= FIRST_KNOWN ? RUNS_EACH : PART_KNOWN * played_places <= met_count;
+}
+
+/* Plays on to the end of the run, by options that are drawn. */
+static void play_on(void)
+{
+    unsigned most = is_every ? MOST_PATH : search.depth, places = B->places;
+    uint8_t actions[MOST_OPTIONS];
+    int count;
+
+    while ((count = next_choice(actions)) != 0 && !xi_stopped()) {
+        unsigned last = (unsigned)count, option = B->path_count < most ? xi_below(last + 1) : last;
+        take(option < last ? actions[option] : DEFAULT);
+    }
+    played_places += B->places - places, xi_played_on++;
+}
+
+/* Plays on from a known state. From such a state, all that follows has passed. Returns false if one of these runs
+ * fails: then two states differ in what isn't compared. */
+static bool is_known_right(struct found *found)
+{
+    static struct saved here;
+    unsigned count = runs_from_here();
+
+    if (count)
+        xi_save(&here);
+    for (unsigned n = 0; n < count; n++) {
+        xi_restore(&here);
+        play_on();
+        if (used_before != xi_dead_used || all_before != xi_reads_dead || xi_stopped())
+            return true;
+        if (S->fault) {
+            xi_keep(found);
+            found->fails = false, found->differs = found->is_known = true;
+            memcpy(found->fresh, xi_fresh_play(B->path, B->path_count).fault, sizeof found->fresh);
+            return false;
+        }
+    }
+    return true;
+}
+
 /* Plays the run on to its end, or to a known state. `counts` gets the numbers of schedules that begin as this run and
  * pass. Returns false if the run fails and the search ends. */
 static bool forward(struct found *found, double *counts)
@@ -273,12 +317,13 @@ static bool forward(struct found *found, double *counts)
         }
         if (xi_saves)
             place.key = key_here();
+        met_count++;
         met = schedule_search_meet(&search, path, MOST_CHOICES, table, room, &place);
         if (met == SCHEDULE_FULL)
             xi_die("a run has more than 524,288 choices");
         if (met == SCHEDULE_PASSES) {
             memcpy(counts, counts_of(&place.key), width() * sizeof *counts);
-            return true;
+            return is_known_right(found);
         }
         if (met != SCHEDULE_GOES || !search.count)
             xi_die("the search has an answer that is none");
@@ -402,7 +447,7 @@ static void search_all(int depth, size_t most_states, struct found *found)
     double counts[DEEPEST + 1] = { 0 };
 
     memset(found, 0, offsetof(struct found, path)), memset(failing, 0, sizeof failing);
-    used_before = xi_dead_used, all_before = xi_reads_dead, ends = next_end = 0;
+    used_before = xi_dead_used, all_before = xi_reads_dead, ends = next_end = 0, known_met = 0;
     begin(depth);
     xi_begin(false);
     xi_next_place();

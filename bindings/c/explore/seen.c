@@ -2,8 +2,17 @@
 #include "inside.h"
 #include <string.h>
 
+#define B xi_book
 #define S xi_state
 
+enum { MOST_KINDS = 1024, MOST_SHOWN = 8 };
+/* A kind of places: one register or table of registers, one offset in the descriptors of a ring, other memory, or one
+ * call. `is_later`: it was reached from round 1 on. `has_deviation`: a deviation did something before it. */
+static struct kind {
+    struct place place;
+    bool is_reached, is_later, has_deviation;
+} kinds[MOST_KINDS];
+static unsigned kind_count, order[MOST_KINDS]; /* in the order in which they were reached */
 static struct {
     /* Of the receive and the transmit ring: whether there is one, it has wrapped, and no slot was offered, or free */
     bool has[2], wrapped[2], full[2];
@@ -56,6 +65,104 @@ static const char *ring(char *into, size_t room, bool sends)
     return into;
 }
 
+/* The kind of the place at which the run is; NULL if there are too many kinds */
+static struct kind *kind_here(void)
+{
+    struct place place = xi_place();
+    size_t at;
+
+    if (place.event <= WRITE)
+        place.address = xi_first_of_table((uint32_t)place.address);
+    else if (place.event <= STORE)
+        place.address = place.ring ? place.address % 16 : 1;
+    else
+        place.address = 0;
+    at = (size_t)((place.address * 8 + (unsigned)place.event) * 4 + (unsigned)place.ring) * 0x9E3779B1 >> 7;
+    for (size_t n = 0; n < MOST_KINDS; n++) {
+        struct kind *kind = &kinds[(at + n) % MOST_KINDS];
+        if (!kind->is_reached) {
+            kind->is_reached = true, kind->place = place;
+            order[kind_count++] = (unsigned)(kind - kinds);
+        }
+        if (kind->place.event == place.event && kind->place.ring == place.ring && kind->place.address == place.address)
+            return kind;
+    }
+    return NULL;
+}
+
+/* The run has come to a place. A place that was seen before is found quickly. */
+void xi_see_place(void)
+{
+    static struct {
+        uint64_t address;
+        uint32_t rings[2][3];
+        bool is_seen;
+    } seen_places[ENDED][64], *seen_place;
+    struct kind *kind;
+
+    if (B->event == ENDED)
+        return;
+    seen_place = &seen_places[B->event][B->address / 4 % 64];
+    if (seen_place->is_seen && seen_place->address == B->address &&
+        !memcmp(seen_place->rings, B->rings, sizeof B->rings))
+        return;
+    kind = kind_here();
+    if (kind)
+        kind->is_later |= B->round > 0;
+    seen_place->address = B->address, seen_place->is_seen = B->round > 0;
+    memcpy(seen_place->rings, B->rings, sizeof B->rings);
+}
+
+/* A deviation has done something before the place at which the run is. */
+void xi_see_deviation(void)
+{
+    struct kind *kind = B->event == ENDED ? NULL : kind_here();
+
+    if (kind)
+        kind->has_deviation = true;
+}
+
+/* The next kind without a deviation, those that were reached from round 1 on first. `at` counts from 0 on. Returns NULL
+ * if there is none. */
+static const struct kind *next_never(unsigned *at)
+{
+    for (; *at < 2 * kind_count; ++*at) {
+        const struct kind *kind = &kinds[order[*at % kind_count]];
+        if (!kind->has_deviation && kind->is_later == (*at < kind_count)) {
+            ++*at;
+            return kind;
+        }
+    }
+    return NULL;
+}
+
+static const char *name_of(const struct kind *kind)
+{
+    static char name[32];
+
+    xi_name(name, sizeof name, &kind->place);
+    xi_without_slot(name);
+    return name;
+}
+
+static void say_never(void)
+{
+    unsigned count = 0, later = 0, shown = 0;
+    const struct kind *kind;
+
+    for (unsigned at = 0; (kind = next_never(&at)) != NULL; count++)
+        later += kind->is_later;
+    xi_say("a deviation did something before %u of %u kinds of places%s", kind_count - count, kind_count,
+           count ? "; never before " : "");
+    for (unsigned at = 0; shown < later && shown < MOST_SHOWN; shown++)
+        xi_say("%s%s", shown ? ", " : "", name_of(next_never(&at)));
+    if (later > shown)
+        xi_say(" and %u more", later - shown);
+    if (count > later)
+        xi_say("%s%u that only round 0 has", later ? ", nor before " : "", count - later);
+    xi_say("\n");
+}
+
 /* Prints what the runs have seen. */
 void xi_say_seen(void)
 {
@@ -64,4 +171,36 @@ void xi_say_seen(void)
 
     xi_say("%s; %s; %s frame was missed%s\n", ring(receive, sizeof receive, false),
            ring(transmit, sizeof transmit, true), seen.missed ? "a" : "no", seen.handled ? handler : "");
+    say_never();
+    if (xi_untold())
+        xi_say("the host's memory was changed without an access, first %s: by the test, or by inline assembly\n",
+               xi_untold());
+}
+
+static void print_truth(const char *key, bool has, bool value)
+{
+    fprintf(xi_out, "\"%s\": %s, ", key, !has ? "null" : value ? "true" : "false");
+}
+
+/* Prints what the runs have seen as an object of JSON. */
+void xi_print_seen(void)
+{
+    const struct kind *kind;
+
+    fprintf(xi_out, "{");
+    print_truth("receive_wrapped", seen.has[0], seen.wrapped[0]);
+    print_truth("receive_dry", seen.has[0], seen.full[0]);
+    print_truth("transmit_wrapped", seen.has[1], seen.wrapped[1]);
+    print_truth("transmit_full", seen.has[1], seen.full[1]);
+    print_truth("missed", true, seen.missed);
+    print_truth("handler_in_send", seen.handled, seen.in_send);
+    fprintf(xi_out, "\"reached\": %u, \"never\": [", kind_count);
+    for (unsigned at = 0, n = 0; (kind = next_never(&at)) != NULL; n++)
+        fputs(n ? ", " : "", xi_out), xi_print_string(xi_out, name_of(kind));
+    fprintf(xi_out, "], \"untold\": ");
+    if (xi_untold())
+        xi_print_string(xi_out, xi_untold());
+    else
+        fprintf(xi_out, "null");
+    fprintf(xi_out, "}");
 }

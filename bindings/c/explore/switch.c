@@ -99,28 +99,61 @@ __attribute__((noinline)) void xi_clear_below(void)
 #endif
 }
 
+/* Called by the function that calls the handler: so the frames of the handler are below this one. Here, and not there:
+ * what a frame of the test's stack leaves unused would make states different. */
+void xi_handler_begins(void)
+{
+    if (xi_state->handlers++ == 0)
+        xi_state->handler_frame = __builtin_frame_address(0);
+}
+
+void xi_handler_ends(void)
+{
+    if (--xi_state->handlers == 0)
+        xi_state->handler_frame = NULL;
+}
+
+/* Ends the program if a place isn't on the stack that is saved, or if a handler was left in another way than by its
+ * end: then it would be kept out for ever. A run comes to its end at the top of the stack, so no run that passes has
+ * left a handler so. One that ends by a signal isn't at a place, and may be on another stack. */
+static void check_stack(const char *frame)
+{
+    bool is_here = frame >= STACK && frame < end_of_stack();
+
+    if (!is_here && xi_book->event != ENDED)
+        xi_die_of("the test runs on another stack than that of its function (makecontext)", NULL);
+    if (is_here && xi_state->handlers && frame > (const char *)xi_state->handler_frame)
+        xi_die("the test leaves its handler by a jump (longjmp): end it by a return");
+}
+
 #if defined(__x86_64__) || defined(__aarch64__)
 static void *explorer_top;
 void xi_switch(void **from, void *to);
 #ifdef __x86_64__
-/* Words that xi_switch pushes, and which of them is the address to go on at. The first word has the modes of floating
- * point: MXCSR, and the control word of the x87. */
+/* Words that xi_switch pushes, and which of them is the address to go on at. The first word has the modes and the
+ * exception flags of floating point: MXCSR, and the control word and the flags of the x87. Only fldenv sets the flags,
+ * and it is slow, so it is left out if they are right. */
 enum { FRAME = 9, RETURN = 7 };
 #define MODES 0x037F00001F80
 __asm__(".text\n.type xi_switch, @function\nxi_switch:\n push %rbp\n push %rbx\n push %r12\n push %r13\n push %r14\n"
-        " push %r15\n sub $8,%rsp\n stmxcsr (%rsp)\n fnstcw 4(%rsp)\n mov %rsp,(%rdi)\n mov %rsi,%rsp\n"
-        " ldmxcsr (%rsp)\n fldcw 4(%rsp)\n add $8,%rsp\n pop %r15\n pop %r14\n pop %r13\n pop %r12\n pop %rbx\n"
+        " push %r15\n sub $8,%rsp\n stmxcsr (%rsp)\n fnstcw 4(%rsp)\n fnstsw %ax\n and $0x3f,%eax\n"
+        " mov %ax,6(%rsp)\n mov %rsp,(%rdi)\n mov %rsi,%rsp\n ldmxcsr (%rsp)\n cmp 6(%rsp),%ax\n je 1f\n"
+        " movzwl 6(%rsp),%eax\n sub $32,%rsp\n fnstenv (%rsp)\n orw $0x3f,(%rsp)\n andw $0xff00,4(%rsp)\n"
+        " or %ax,4(%rsp)\n fldenv (%rsp)\n movq $0,(%rsp)\n movq $0,8(%rsp)\n movq $0,16(%rsp)\n movq $0,24(%rsp)\n"
+        " add $32,%rsp\n1: fldcw 4(%rsp)\n add $8,%rsp\n pop %r15\n pop %r14\n pop %r13\n pop %r12\n pop %rbx\n"
         " pop %rbp\n pop %rcx\n jmp *%rcx\n.size xi_switch, .-xi_switch\n");
 #else
-enum { FRAME = 20, RETURN = 1 };
-#define MODES 0
-__asm__(".text\n.type xi_switch, %function\nxi_switch:\n stp x29, x30, [sp, #-160]!\n stp x19, x20, [sp, #16]\n"
+enum { FRAME = 22, RETURN = 1 };
+#define MODES 0 /* of FPCR and FPSR, at the end of the frame */
+__asm__(".text\n.type xi_switch, %function\nxi_switch:\n stp x29, x30, [sp, #-176]!\n stp x19, x20, [sp, #16]\n"
         " stp x21, x22, [sp, #32]\n stp x23, x24, [sp, #48]\n stp x25, x26, [sp, #64]\n stp x27, x28, [sp, #80]\n"
         " stp d8, d9, [sp, #96]\n stp d10, d11, [sp, #112]\n stp d12, d13, [sp, #128]\n stp d14, d15, [sp, #144]\n"
+        " mrs x9, fpcr\n mrs x10, fpsr\n stp x9, x10, [sp, #160]\n"
         " mov x9, sp\n str x9, [x0]\n mov sp, x1\n ldp x19, x20, [sp, #16]\n ldp x21, x22, [sp, #32]\n"
         " ldp x23, x24, [sp, #48]\n ldp x25, x26, [sp, #64]\n ldp x27, x28, [sp, #80]\n ldp d8, d9, [sp, #96]\n"
         " ldp d10, d11, [sp, #112]\n ldp d12, d13, [sp, #128]\n ldp d14, d15, [sp, #144]\n"
-        " ldp x29, x30, [sp], #160\n br x30\n.size xi_switch, .-xi_switch\n");
+        " ldp x9, x10, [sp, #160]\n msr fpcr, x9\n msr fpsr, x10\n ldp x29, x30, [sp], #176\n br x30\n"
+        ".size xi_switch, .-xi_switch\n");
 #endif
 
 static void first(void)
@@ -148,6 +181,7 @@ void xi_to_test(void)
 
 void xi_to_explorer(void)
 {
+    check_stack(__builtin_frame_address(0));
     xi_switch(&test_top, explorer_top);
 }
 #else
@@ -171,6 +205,7 @@ void xi_to_test(void)
 
 void xi_to_explorer(void)
 {
+    check_stack(__builtin_frame_address(0));
     swapcontext(&test_context, &explorer_context);
 }
 #endif

@@ -49,9 +49,11 @@ void xi_listen(void)
 {
     static const int numbers[] = { SIGINT, SIGTERM, SIGHUP };
 
-    for (size_t n = 0; n < sizeof numbers / sizeof *numbers; n++)
-        if (signal(numbers[n], SIG_IGN) != SIG_IGN)
-            xi_on(numbers[n], on_stop, SA_RESTART);
+    for (size_t n = 0; n < sizeof numbers / sizeof *numbers; n++) {
+        struct sigaction now;
+        if (sigaction(numbers[n], NULL, &now) || now.sa_handler != SIG_IGN)
+            xi_on(numbers[n], on_stop, SA_RESTART | SA_ONSTACK);
+    }
 }
 
 /* Each second: ends the run of a test that runs for too long, or that comes to no access when a signal has ended the
@@ -86,7 +88,7 @@ void xi_limit_time(void)
 {
     struct itimerval each = { { 1, 0 }, { 1, 0 } };
 
-    xi_on(SIGALRM, on_second, SA_RESTART | SA_NODEFER);
+    xi_on(SIGALRM, on_second, SA_RESTART | SA_NODEFER | SA_ONSTACK);
     setitimer(ITIMER_REAL, &each, NULL);
 }
 

@@ -21,6 +21,8 @@ static const char help[] =
     "  --states N           ends a search that has more states (default 20000000)\n"
     "  --seconds N          a run that doesn't end in N seconds fails (default 60)\n"
     "  --replay FILE        plays one schedule; with --log, prints each access and each step\n"
+    "  --html FILE          stores a page of the schedule that was found, or of that of --replay: step through the run\n"
+    "                       in a browser\n"
     "  --serve PROGRAM      also plays the schedule that is printed, or that of --replay, by PROGRAM serve: its\n"
     "                       player of schedules is proved\n"
     "  --out PATH           stores the schedule that was found in this file, or in schedule.txt of a folder PATH/\n"
@@ -30,8 +32,8 @@ static const char help[] =
     "  --pipe               sends requests of `nicbench serve`: tools/races --replay FILE -- THIS --pipe\n"
     "                       draws a chart\n"
     "\n"
-    "Without options, NIC_EXPLORE (N, every or draw:N), NIC_REPLAY, NIC_OUT and NIC_SERVE are used. Words before\n"
-    "the first option belong to the test. Exit status: 0 if no schedule fails, 1 if one fails, 2 if a word or a\n"
+    "Without options, NIC_EXPLORE (N, every or draw:N), NIC_REPLAY, NIC_OUT, NIC_SERVE and NIC_HTML are used.\n"
+    "Words before the first option belong to the test. Exit status: 0 if no schedule fails, 1 if one fails, 2 if a word or a\n"
     "schedule is invalid, 3 if the search can't go on, 4 if nothing was searched, 5 if a run of the search isn't as its\n"
     "schedule played from nothing. If a signal ends the search, 128 and its number: 130 after Ctrl-C, 143 after\n"
     "SIGTERM.\n";
@@ -70,7 +72,7 @@ static void from_variables(void)
     else if (explore)
         xi_given.depth = depth_of("NIC_EXPLORE", explore);
     xi_given.replay = getenv("NIC_REPLAY"), xi_given.out = getenv("NIC_OUT");
-    xi_given.serve = getenv("NIC_SERVE");
+    xi_given.serve = getenv("NIC_SERVE"), xi_given.html = getenv("NIC_HTML");
 }
 
 static bool is_flag(const char *word)
@@ -89,7 +91,7 @@ static bool is_flag(const char *word)
 static void take_value(const char *option, const char *value)
 {
     static const char *const options[] = { "--explore", "--runs", "--seed", "--states", "--replay", "--out", "--pct",
-                                           "--serve", "--seconds" };
+                                           "--serve", "--seconds", "--html" };
     bool is_known = false;
 
     for (size_t n = 0; n < sizeof options / sizeof *options; n++)
@@ -118,6 +120,8 @@ static void take_value(const char *option, const char *value)
             refuse(option, "its value is at least 1");
     } else if (!strcmp(option, "--serve"))
         xi_given.serve = value;
+    else if (!strcmp(option, "--html"))
+        xi_given.html = value;
     else
         xi_given.out = value;
 }
@@ -146,6 +150,8 @@ void xi_take_words(int count, char **words)
     }
     if (xi_given.log && (!xi_given.replay || xi_given.json))
         refuse("--log", "it needs --replay, and goes without --json");
+    if (xi_given.html && xi_given.pipe)
+        refuse("--html", "it goes without --pipe");
     if (xi_given.all && xi_given.depth == EVERY)
         refuse("--all", "with --explore, it needs a number: of every schedule, more may fail than can be listed");
 }

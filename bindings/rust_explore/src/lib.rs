@@ -16,13 +16,19 @@
 //! ```
 //!
 //! All memory that the test writes is a part of its state: its stack, its heap with any allocator that calls `malloc`,
-//! statics and thread-local variables. The test must use no threads, files, clock or random numbers. Options are words of the program. Without options, the
-//! variables NIC_EXPLORE, NIC_REPLAY, NIC_OUT and NIC_SERVE are used. `nic82540em_explore.h` and `--help` describe
-//! both.
+//! statics and thread-local variables. The test must use no threads, files, clock or random numbers. Options are words
+//! of the program. Without options, the variables NIC_EXPLORE, NIC_REPLAY, NIC_OUT and NIC_SERVE are used.
+//! `nic82540em_explore.h` and `--help` describe both.
 
 use std::alloc::{GlobalAlloc, Layout, System};
+use std::env::var_os;
 use std::ffi::{c_char, c_int, c_void, CString};
+use std::io::{BufRead, BufReader};
+use std::os::fd::AsRawFd;
+use std::os::unix::ffi::OsStringExt;
+use std::os::unix::net::UnixStream;
 use std::panic::{catch_unwind, set_hook, AssertUnwindSafe};
+use std::sync::Mutex;
 
 extern "C" {
     fn nic82540em_explore(
@@ -45,6 +51,7 @@ extern "C" {
     fn x_forget();
     fn x_memory(size: usize) -> *mut c_void;
     fn x_inside() -> bool;
+    fn dup2(file: c_int, other: c_int) -> c_int;
     fn fork() -> c_int;
     fn getpid() -> c_int;
     fn getppid() -> c_int;
@@ -180,40 +187,58 @@ extern "C" fn run<T: Fn(Explored)>(test: *mut c_void) -> *const c_char {
 
 /// Searches the schedules of a test, as the words of the program ask for. Returns the exit status.
 pub fn explore<T: Fn(Explored)>(test: T) -> i32 {
-    let words: Vec<CString> = std::env::args().map(|word| CString::new(word).expect("a word has a null byte")).collect();
-    explore_by(&words, &test)
+    explore_by(std::env::args().map(String::into_bytes), &test)
 }
 
 /// Searches the schedules of a test in a test of `cargo test`, as the variables NIC_EXPLORE, NIC_REPLAY, NIC_OUT and
 /// NIC_SERVE ask for. Returns whether the exit status is 0. Each search has a process of its own, so there may be
-/// several tests, which run at the same time. To play a schedule again: `NIC_REPLAY=FILE cargo test NAME`.
+/// several tests, which run at the same time.
+///
+/// The report is the output of the test: `cargo test` prints it if the test fails, and always after `-- --show-output`.
+/// It contains the command that plays the schedule again, such as `NIC_REPLAY=FILE cargo test NAME -- --exact`. With
+/// NIC_LOG=1, this command prints each access and each step.
 pub fn explored<T: Fn(Explored)>(test: T) -> bool {
-    in_process(|| explore_by(&[c"cargo test".to_owned()], &test)) == 0
+    let command = match std::thread::current().name() {
+        Some("main") | None => "cargo test".to_owned(), // of one thread, which runs all tests
+        Some(name) => format!("cargo test {name} -- --exact"),
+    };
+    let mut words = vec![command.clone().into_bytes()];
+    if let (Some(file), Some(_)) = (var_os("NIC_REPLAY"), var_os("NIC_LOG")) {
+        words.extend([b"--replay".to_vec(), file.into_vec(), b"--log".to_vec()]);
+    }
+    let show = |line: &str| for_cargo(line, &command).into_iter().for_each(|line| println!("{line}"));
+    in_process(|| explore_by(words.iter().cloned(), &test), show) == 0
 }
 
-/// Runs a search in a new process, which ends with this thread, and returns its exit status. The explorer uses fixed
-/// addresses, signal handlers and variables of its process.
-fn in_process(search: impl Fn() -> i32) -> i32 {
-    const PR_SET_PDEATHSIG: c_int = 1;
-    const SIGTERM: c_int = 15;
+/// A line of the report as `cargo test` needs it: with variables in place of options. There is none for the line of a
+/// chart, since a test of `cargo test` has other texts on its standard output than the requests of a driver.
+fn for_cargo(line: &str, command: &str) -> Option<String> {
+    if line.contains(&format!("{command} --pipe")) {
+        return None;
+    }
+    if let Some((before, path)) = line.split_once(&format!("{command} --replay ")) {
+        return Some(format!("{before}NIC_REPLAY={path} {command}"));
+    }
+    Some(line.replace("the same with --log", "the same with NIC_LOG=1"))
+}
+
+/// Runs a search in a new process, which ends with this thread. Shows each line of its standard output, and returns its
+/// exit status. The explorer uses fixed addresses, signal handlers and variables of its process.
+fn in_process(search: impl Fn() -> i32, show: impl Fn(&str)) -> i32 {
+    // so that no other search has the end of this pipe that is written
+    static FORKS: Mutex<()> = Mutex::new(());
+    let forks = FORKS.lock().unwrap_or_else(|error| error.into_inner());
+    let (lines, output) = UnixStream::pair().expect("no pipe for the search");
+    let child = unsafe { forked(&search, output.as_raw_fd()) };
+    drop(output);
+    drop(forks);
+    for line in BufReader::new(lines).split(b'\n') {
+        show(&String::from_utf8_lossy(&line.expect("the output of the search can't be read")));
+    }
     let mut status = 0;
-    unsafe {
-        fflush(std::ptr::null_mut());
-        let (parent, child) = (getpid(), fork());
-        if child == 0 {
-            prctl(PR_SET_PDEATHSIG, SIGTERM);
-            if getppid() != parent {
-                _exit(128 + SIGTERM);
-            }
-            let ended = search();
-            fflush(std::ptr::null_mut());
-            _exit(ended);
-        }
-        assert!(child > 0, "no process for the search: {}", std::io::Error::last_os_error());
-        while waitpid(child, &mut status, 0) != child {
-            let error = std::io::Error::last_os_error();
-            assert!(error.kind() == std::io::ErrorKind::Interrupted, "no status of the search: {error}");
-        }
+    while unsafe { waitpid(child, &mut status, 0) } != child {
+        let error = std::io::Error::last_os_error();
+        assert!(error.kind() == std::io::ErrorKind::Interrupted, "no status of the search: {error}");
     }
     match status & 0x7F {
         0 => status >> 8 & 0xFF,
@@ -221,7 +246,27 @@ fn in_process(search: impl Fn() -> i32) -> i32 {
     }
 }
 
-fn explore_by<T: Fn(Explored)>(words: &[CString], test: &T) -> i32 {
+/// Starts a process that searches, and ends with this thread. `output` is its standard output. Returns its number.
+unsafe fn forked(search: &impl Fn() -> i32, output: c_int) -> c_int {
+    const PR_SET_PDEATHSIG: c_int = 1;
+    const SIGTERM: c_int = 15;
+    fflush(std::ptr::null_mut());
+    let (parent, child) = (getpid(), fork());
+    if child == 0 {
+        prctl(PR_SET_PDEATHSIG, SIGTERM);
+        if getppid() != parent || dup2(output, 1) != 1 {
+            _exit(128 + SIGTERM);
+        }
+        let ended = search();
+        fflush(std::ptr::null_mut());
+        _exit(ended);
+    }
+    assert!(child > 0, "no process for the search: {}", std::io::Error::last_os_error());
+    child
+}
+
+fn explore_by<T: Fn(Explored)>(words: impl Iterator<Item = Vec<u8>>, test: &T) -> i32 {
+    let words: Vec<CString> = words.map(|word| CString::new(word).expect("a word has a null byte")).collect();
     let pointers: Vec<*const c_char> = words.iter().map(|word| word.as_ptr()).collect();
     set_hook(Box::new(|_| {}));
     let test: *const T = test;

@@ -1,0 +1,175 @@
+/* The device that is searched: the 82540EM (nic.c), or another one that the test gives (x_use). */
+#include "inside.h"
+#include <string.h>
+
+#define S xi_state
+
+enum { MOST_MEMORY = 1 << 24, FREE = -1, LAST = CLOCKS + X_KINDS };
+const struct x_device *xi_device = &xi_nic;
+const char *xi_actions[ACTIONS];
+int xi_actors[ACTIONS];
+unsigned xi_clocks, xi_clock[CLOCKS];
+
+void x_use(const struct x_device *device)
+{
+    xi_device = device;
+}
+
+bool xi_is_nic(void)
+{
+    return xi_device == &xi_nic;
+}
+
+bool xi_is_clock(int action)
+{
+    return action >= 0 && action < X_KINDS && xi_device->clocks >> action & 1;
+}
+
+/* Whether two steps, one directly after the other, are also a pair */
+bool xi_is_pair(int first, int second)
+{
+    for (int n = 0; n < PAIRS; n++) {
+        const struct x_pair *pair = &xi_device->pairs[n];
+        if (pair->name && (int)pair->first == first && (int)pair->second == second)
+            return true;
+    }
+    return false;
+}
+
+/* Ends the program if the description of the device is wrong. */
+static void check(const struct x_device *one)
+{
+    unsigned clocks = 0;
+
+    if (!one || !one->name || !one->steps || !one->engines || !one->reset || !one->possible || !one->step ||
+        !one->read || !one->write || !one->line)
+        xi_die("x_use: the device has no name, or one of its functions or lists isn't there");
+    if (!one->kinds || one->kinds > X_KINDS || (one->kinds < X_KINDS && one->clocks >> one->kinds))
+        xi_die("x_use: the device has no kinds of steps, more than 8, or clocks that aren't kinds of its steps");
+    for (unsigned n = 0; n < one->kinds; n++)
+        if (!one->steps[n] || one->engines[n] >= X_KINDS)
+            xi_die("x_use: a kind of the device's steps has no name, or a number of an engine above 7");
+        else
+            clocks += one->clocks >> n & 1;
+    if (clocks > CLOCKS)
+        xi_die("x_use: the device has more than two clocks");
+    if (one->memory > MOST_MEMORY)
+        xi_die("x_use: the host has more than 16 MiB of memory");
+    for (int n = 0; n < PAIRS; n++)
+        if (one->pairs[n].name && (one->pairs[n].first >= one->kinds || one->pairs[n].second >= one->kinds))
+            xi_die("x_use: a pair of the device isn't one of its kinds of steps");
+}
+
+/* Deviations of two actors before one access can be exchanged. The holds come first, then the engines. */
+static void know_actors(void)
+{
+    for (unsigned n = 0; n < ACTIONS; n++)
+        xi_actors[n] = LAST;
+    for (unsigned n = 0; n < xi_device->kinds; n++)
+        xi_actors[n] = xi_is_clock((int)n) ? FREE : (int)(CLOCKS + xi_device->engines[n]);
+    for (int n = 0; n < PAIRS; n++)
+        xi_actors[PAIR + n] = xi_device->pairs[n].name ? xi_actors[xi_device->pairs[n].first] : FREE;
+    for (int n = 0; n < CLOCKS; n++)
+        xi_actors[HOLD + n] = FREE;
+    xi_actors[ARRIVAL] = xi_is_nic() ? xi_actors[NIC_RXDATA] : FREE;
+}
+
+/* Takes the names of actions, and the actors, from the device. */
+void xi_know_device(void)
+{
+    static const char *const others[] = { "arrive", "irq", "late irq", "hold step", "choose" };
+    static char holds[CLOCKS][32];
+
+    check(xi_device);
+    for (unsigned n = 0; n < HOLD + CLOCKS; n++)
+        xi_actions[n] = n < xi_device->kinds ? xi_device->steps[n] : " ";
+    for (int n = 0; n < PAIRS; n++)
+        if (xi_device->pairs[n].name)
+            xi_actions[PAIR + n] = xi_device->pairs[n].name;
+    xi_clocks = 0;
+    for (unsigned n = 0; n < xi_device->kinds; n++)
+        if (xi_is_clock((int)n)) {
+            snprintf(holds[xi_clocks], sizeof holds[0], "hold %s", xi_device->steps[n]);
+            xi_actions[HOLD + xi_clocks] = holds[xi_clocks];
+            xi_clock[xi_clocks++] = n;
+        }
+    memcpy(&xi_actions[ARRIVAL], others, sizeof others);
+    know_actors();
+}
+
+struct tried {
+    bool ok;
+    void *block;
+};
+struct tried rattle_alloc(size_t size, size_t align);
+
+/* Begins a run with the device as after power on, and memory of zeros. */
+void xi_start_device(void)
+{
+    if (!xi_is_nic()) {
+        struct tried memory = rattle_alloc(xi_device->memory, 4096);
+        if (!memory.ok)
+            xi_die("memory is refused");
+        S->host = memset(memory.block, 0, xi_device->memory);
+        xi_reads_dead = true; /* its rings aren't known */
+    }
+    xi_device->reset();
+}
+
+/* The digest of the device without the host's memory. The state of another device than the 82540EM is in memory that is
+ * compared. */
+struct digest xi_device_digest(void)
+{
+    if (!xi_is_nic())
+        return (struct digest){ 0, 0 };
+    return (struct digest){ nic82540em_state_digest(&S->nic, 1), nic82540em_state_digest(&S->nic, 2) };
+}
+
+uint8_t *xi_host(uint64_t *size)
+{
+    void *at = S->host;
+
+    *size = xi_is_nic() ? nic82540em_memory(&S->nic, &at) : xi_device->memory;
+    return at;
+}
+
+static bool has(uint64_t address, size_t count)
+{
+    return address <= xi_device->memory && count <= xi_device->memory - address;
+}
+
+bool xi_load(uint64_t address, void *into, size_t count)
+{
+    if (xi_is_nic())
+        return nic82540em_load(&S->nic, address, into, count);
+    if (has(address, count))
+        memcpy(into, S->host + address, count);
+    return has(address, count);
+}
+
+bool xi_store(uint64_t address, const void *bytes, size_t count)
+{
+    if (xi_is_nic())
+        return nic82540em_store(&S->nic, address, bytes, count);
+    if (has(address, count))
+        memcpy(S->host + address, bytes, count);
+    return has(address, count);
+}
+
+/* The name of a register, such as ICR */
+const char *xi_register(uint32_t offset)
+{
+    static char other[32];
+    const char *name = xi_device->name_of ? xi_device->name_of(offset) : NULL;
+
+    if (name)
+        return name;
+    snprintf(other, sizeof other, "register[%#x]", offset);
+    return other;
+}
+
+/* The device's name of bytes of memory, or NULL */
+const char *xi_memory_name(uint64_t address)
+{
+    return xi_device->name_memory ? xi_device->name_memory(address) : NULL;
+}
