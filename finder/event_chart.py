@@ -141,9 +141,10 @@ def number_of(text: str) -> int:
     return int(text)
 
 
-def arguments_of(words: Optional[Sequence[str]]) -> argparse.Namespace:
+def arguments_of(words: Optional[Sequence[str]], version: str) -> argparse.Namespace:
     parser = Parser(prog="tools/run_chart", description=__doc__, epilog=NOTE,
                     formatter_class=argparse.RawDescriptionHelpFormatter)
+    parser.add_argument("--version", action="version", version=f"%(prog)s {version}")
     form = parser.add_mutually_exclusive_group()
     form.add_argument("--svg", action="store_true", help="write an SVG picture in place of a text")
     form.add_argument("--html", action="store_true",
@@ -179,11 +180,11 @@ def draw(args: argparse.Namespace) -> str:
     return picture(rows, end, columns) if args.svg else chart_on(look_of(args.color), rows, end, True, columns)
 
 
-def main(words: Optional[Sequence[str]] = None) -> int:
+def main(words: Optional[Sequence[str]] = None, version: str = "") -> int:
     try:
         listen()
         prepare_output()
-        say(draw(arguments_of(words)), end="")
+        say(draw(arguments_of(words, version)), end="")
         return DRAWN
     except UsageError as error:
         tell(f"run_chart: {error}\nFor more information, try '--help'.")

@@ -17,6 +17,7 @@ from typing import List, NoReturn, Optional, Sequence, Tuple
 
 from finder.arguments import UsageError
 from finder.ends import BY_SIGNAL, Ended, Unprinted, listen, prepare_output, tell
+from finder.page.c_file import c_file
 from finder.page.from_explorer import of_text
 from finder.page.log import Log, LogError, RunLog, json_of, log_in
 from finder.page.write import page
@@ -119,12 +120,18 @@ def arguments_of(words: Sequence[str]) -> Tuple[argparse.Namespace, List[str]]:
                     formatter_class=argparse.RawDescriptionHelpFormatter)
     parser.add_argument("--html", metavar="FILE", help="the page")
     parser.add_argument("--json", metavar="FILE", help="stores the log in JSON, too")
+    parser.add_argument("--template", metavar="FILE",
+                        help="stores the template of pages as a C file of the explorer, and nothing else")
     parser.add_argument("--command", metavar="TEXT", help="the page's title, in place of COMMAND or LOG")
     parser.add_argument("--replay", metavar="SCHEDULE", help="the schedule; with LOG, the page shows it")
     parser.add_argument("--seconds", type=seconds_of, default=60, metavar="N",
                         help="the time for a run of COMMAND (default 60)")
     parser.add_argument("logs", metavar="LOG", nargs="*", help="one log or two; - is standard input")
     args, command = parser.parse_args(list(words[:cut])), list(words[cut + 1:])
+    if args.template and len(words) > 2:
+        raise UsageError("--template: it goes without other arguments")
+    if args.template:
+        return args, []
     if not args.html and not args.json:
         raise UsageError("give --html FILE or --json FILE")
     if bool(command) == bool(args.logs) or len(args.logs) > 2:
@@ -134,8 +141,20 @@ def arguments_of(words: Sequence[str]) -> Tuple[argparse.Namespace, List[str]]:
     return args, command
 
 
+def store(path: str, text: str) -> None:
+    """Writes a file. Raises NotRun."""
+    try:
+        with open(path, "w", encoding="utf-8", errors="surrogateescape") as file:
+            file.write(text)
+    except OSError as error:
+        raise NotRun(f"{path}: {error.strerror}") from None
+
+
 def make(words: Sequence[str]) -> int:
     args, command = arguments_of(words)
+    if args.template:
+        store(args.template, c_file())
+        return STORED
     if command:
         log = log_of_command(command, args.replay, args.seconds)
     else:
@@ -144,11 +163,7 @@ def make(words: Sequence[str]) -> int:
         log = log._replace(command=args.command)
     for path, text in ((args.html, page), (args.json, json_of)):
         if path:
-            try:
-                with open(path, "w", encoding="utf-8", errors="surrogateescape") as file:
-                    file.write(text(log))
-            except OSError as error:
-                raise NotRun(f"{path}: {error.strerror}") from None
+            store(path, text(log))
     return STORED
 
 

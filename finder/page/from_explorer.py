@@ -15,7 +15,7 @@ ACCESS = re.compile(PLACE + r"(read|write) ([^\s,]+)(?: (0|0x[0-9a-f]+)|, (\d+) 
 # Another place: a request of the test, a call of the explorer, or an access of a variable
 OTHER = re.compile(PLACE + r"(?!(?:read|write)\b)([a-z]+)\b(?:: (\w+))?(.*)")
 TAKEN = re.compile(r"([ *])        (\w+): (\w+)")
-CHANGE = re.compile(r"         the (?:line is (raised|lowered)|handler (cuts in|returns))")
+CHANGE = re.compile(r"([ *])        the (?:line is (raised|lowered)|handler (cuts in|returns|is late))")
 ENDINGS = {"raised": "raise", "lowered": "lower"}
 
 
@@ -51,11 +51,11 @@ class Reader:
         self.steps: List[Step] = []
 
     def change(self, found: re.Match[str]) -> None:
-        line, handler = found.groups()
+        star, line, handler = found.groups()
         if line:
             self.steps.append(Step(ADAPTER, ENDINGS[line]))
             return
-        self.steps.append(Step(HANDLER, "mark", outcome=f"the handler {handler}"))
+        self.steps.append(Step(HANDLER, "mark", outcome=f"the handler {handler}", is_deviation=star == "*"))
         self.actor = HANDLER if handler == "cuts in" else DRIVER
 
     def read(self, line: str) -> bool:

@@ -1,174 +1,228 @@
-'use strict';
-const D = JSON.parse(document.getElementById('data').textContent);
+/* The page: the list of steps, and the state after the step that is shown. */
+const MOST_STEPS = 4000, BEFORE = 500, MOST_REASONS = 4, MOST_LINES = 20, MOST_BUFFERS = 256;
+const HELP = [['\u2192 \u2193 Space', 'the next step'], ['\u2190 \u2191 Shift+Space', 'the step before'],
+  ['PageUp PageDown', 'ten steps'], ['Home End', 'the first step, the last step'], ['w', 'where it goes wrong'],
+  ['d', 'the next deviation'], ['c', 'compare with the run without deviations'], ['o', 'the same step in the other'
+    + ' run'],
+  ['/', 'search: Enter shows the next hit; n and N, too'], ['f', 'where was a frame?'], ['?', 'this list']];
 const at = id => document.getElementById(id);
-const rows = [...document.querySelectorAll('#steps > li')];
-// The rows of the steps of both runs. The first row of a long run is that of step D.first.
-const runs = { run: [], other: [] };
-for (const row of rows) {
-  if (!row.classList.contains('gap')) row.step = D.first + runs.run.push(row) - 1;
-  if (D.other && !row.classList.contains('only')) row.second = D.first + runs.other.push(row) - 1;
-}
-let side = 'run', now = 0, chosen = null, hits = [];
-
-const short = { d: '', s: 'st', o: 'off', p: '..', f: 'DD', F: 'DD\u2713' };
-const rowOf = (which, step) => runs[which][step - D.first];
 const escaped = text => text.replace(/[&<>"]/g, one => `&#${one.charCodeAt(0)};`);
+const LOG = JSON.parse(at('data').textContent), PLACES = LOG.places;
+const runs = { run: LOG.runs[0], other: LOG.runs[1] };
+const all = { run: shownOf(runs.run), other: runs.other && shownOf(runs.other) };
+const lanes = PLACES ? PLACES.lanes : lanesOf(LOG.runs);
+const found = PLACES ? [] : reasons(runs.run, runs.other), differs = runs.other && difference(runs.run, runs.other);
+const differsAt = differs && runs.run.steps.length ? differs.step ?? runs.run.steps.length - 1 : null;
+const stars = runs.run.steps.flatMap((step, n) => step.is_deviation ? [n] : []);
+// Of a long run, the page has MOST_STEPS steps, from BEFORE steps before the first deviation or finding on.
+const first = beginOf(), isInside = step => step !== null && step >= first && step < first + MOST_STEPS;
+const rows = [], rowsOf = { run: [], other: [] };
+let side = 'run', now = 0, chosen = null, hits = [], buffersAreOpen = true;
+
+function beginOf() {
+  const lengths = LOG.runs.map(run => run.steps.length), { length } = runs.run.steps;
+  if (Math.max(...lengths) <= MOST_STEPS) return 0;
+  const begin = Math.min(length, ...stars, ...found.map(one => one.step));
+  return Math.max(0, Math.min(begin - BEFORE, length - MOST_STEPS));
+}
+
+// The head of the page, and the list of steps
+
+const linkTo = step => `<a href=#${step}>step ${step}</a>`;
+const hintOf = one => one.isHint || one.isLater ? ' hint' : '';
+const sectionOf = one => one.section ? ` See \u201C${escaped(one.section)}\u201D in docs/RACES.md.` : '';
+
+function headOf() {
+  const { run } = runs, lines = [`<h1>${escaped(LOG.command || run.name)}</h1>`], last = run.steps.length - 1;
+  if (run.fault) lines.push(`<p class=fault>${escaped(run.fault)}</p>`);
+  else lines.push(`<p>${PLACES ? `${run.steps.length} steps.` : 'The test passes.'}</p>`);
+  if (first || last >= first + MOST_STEPS)
+    lines.push(`<p>The page has the steps ${first} to ${Math.min(last, first + MOST_STEPS - 1)} of ${last + 1}.</p>`);
+  if (run.schedule.length) {
+    const shown = run.schedule.slice(0, MOST_LINES).map(line => `<code>${escaped(line)}</code>`).join(', ');
+    const more = run.schedule.length > MOST_LINES ? ` and ${run.schedule.length - MOST_LINES} more` : '';
+    lines.push(`<p>Schedule: ${shown}${more}${stars.length ? ` (${linkTo(stars[0])})` : ''}</p>`);
+  }
+  for (const one of found.slice(0, MOST_REASONS))
+    lines.push(`<p class="why${hintOf(one)}"><b>${one.isHint ? 'Perhaps ' : one.isLater ? 'Later, ' : ''}`
+      + `${linkTo(one.step)}</b>: ${escaped(one.text)}${one.isLater ? '' : sectionOf(one)}</p>`);
+  if (differsAt !== null)
+    lines.push(`<p class=diff>${linkTo(differsAt)}: ${escaped(firstText(differs, all.run, all.other))}</p>`);
+  return lines.join('\n');
+}
+
+/** The notes of a step, as HTML. */
+function notesOf(step) {
+  const notes = found.filter(one => one.step === step)
+    .map(one => `<em class="${hintOf(one)}">${escaped(one.text)}</em>`);
+  if (step === differsAt) notes.push(`<em class=first>${escaped(firstText(differs, all.run, all.other))}</em>`);
+  return notes.join('');
+}
+
+/** A row of the list: a step, the aligned step of the other run if its text differs, and notes. */
+function rowOf([step, second]) {
+  const row = document.createElement('li');
+  if (step === null) {
+    row.className = 'gap';
+    row.innerHTML = `<i>${escaped(runs.other.steps[second].place || '')}</i><s>${escaped(all.other.texts[second])}</s>`;
+  } else {
+    const one = runs.run.steps[step], text = all.run.texts[step], lane = lanes.indexOf(one.actor);
+    const classes = { dev: one.is_deviation, up: all.run.lines[step], only: runs.other && second === null,
+      why: found.some(its => its.step === step), differs: step === differsAt };
+    row.id = step;
+    row.className = Object.keys(classes).filter(name => classes[name]).join(' ');
+    const its = second === null ? text : all.other.texts[second], right = its === text ? '' : `<s>${escaped(its)}</s>`;
+    row.innerHTML = `<i>${escaped(one.place || '')}</i><b class=l${lane} data-lane="${escaped(lanes[lane])}">`
+      + `${escaped(text)}</b>${right}${notesOf(step)}`;
+    rowsOf.run.push(row);
+    row.step = step;
+  }
+  if (second !== null) {
+    rowsOf.other.push(row);
+    row.second = second;
+  }
+  rows.push(row);
+  return row;
+}
+
+function fill() {
+  const pairs = runs.other ? align(runs.run, runs.other) : runs.run.steps.map((_, n) => [n, null]);
+  at('top').innerHTML = headOf();
+  at('lanes').innerHTML = '<span>step</span><span>place</span>' + lanes.map((lane, n) =>
+    `<b style="grid-column:${3 + n}">${escaped(lane)}</b>`).join('') + '<s>without deviations</s>';
+  at('columns').textContent = lanes.map((_, n) => n ? `.steps .l${n} { grid-column: ${3 + n} / span`
+    + ` ${lanes.length - n} }`
+    : '').join('\n');
+  document.querySelector('main').style.setProperty('--lanes', lanes.length);
+  at('steps').style.counterReset = `step ${first - 1}`;
+  at('steps').append(...pairs.map(pair => pair.map(step => isInside(step) ? step : null))
+    .filter(([step, second]) => step !== null || second !== null).map(rowOf));
+  at('help').innerHTML = `<table>${HELP.map(([keys, what]) => `<tr><th scope=row>${keys.split(' ').map(key =>
+    `<kbd>${key}</kbd> `).join('')}</th><td>${what}</td></tr>`).join('')}</table>`;
+  at('frame').innerHTML = '<option value="">where was frame'
+    + ' ..</option>' + [...new Set(all.run.changes.flatMap(Object.keys))]
+    .filter(name => /^(sent )?frame \d+$/.test(name)).map(name => `<option>${name}</option>`).join('');
+}
+
+const rowAt = (which, step) => rowsOf[which][step - first];
 const own = row => row.querySelector('b');
-const actor = row => own(row) ? D.lanes[+own(row).className.slice(1)] : '';
-const textOf = (which, row) => (which === 'other' && row.querySelector('s') || own(row)).textContent;
+const actor = row => own(row)?.dataset.lane || '';
+const textIn = (which, row) => (which === 'other' && row.querySelector('s') || own(row)).textContent;
 
-/** The cells after a step, what the step changed, and the addresses of buffers so far. */
+/** The cells after a step, and what the step changed. */
 function cellsAt(which, step) {
-  const cells = {}, buffers = new Set(), changed = new Set();
-  D[which].slice(0, step + 1 - D.first).forEach((change, number) => {
-    for (let n = 0; n < change.length; n += 2) {
-      const name = D.cells[change[n]];
-      cells[name] = change[n + 1];
-      const [state, , buffer] = /^[rt]x\[\d+\]$/.test(name) ? change[n + 1].split('/') : 'd';
-      if (name[0] === 'r' || state !== 'd') buffers.add(buffer || '');
-      if (number + D.first === step) changed.add(name);
-    }
-  });
+  const cells = {}, buffers = new Set();
+  for (const change of all[which].changes.slice(0, step + 1)) {
+    Object.assign(cells, change);
+    for (const [name, text] of Object.entries(change))
+      if (/^[rt]x\[\d+\]$/.test(name) && !(name[0] === 't' && text[0] === 'd'))
+        for (const one of text.split('/').slice(2)) buffers.add(one);
+  }
   buffers.delete('');
-  return { cells, changed, buffers };
+  buffers.delete('?');
+  return { cells, changed: new Set(Object.keys(all[which].changes[step])), buffers };
 }
 
-const bitNames = (register, value) => Object.entries(D.bits[register] || {})
-  .filter(([bit]) => value / 2 ** bit & 1).map(([, name]) => name).join(' ');
-const slotOf = (cells, name) => {
-  const [state, frame, buffer] = (cells[name] || 'd//').split('/');
-  return { state, frame, buffer };
-};
+// The state
+
+function slotOf(cells, name) {
+  const [state, frame, buffer, fetched] = (cells[name] || 'd///').split('/');
+  return { state, frame, buffer, fetched };
+}
 const frameName = (ring, number) => number === '' ? '' : `${ring === 'tx' ? 'sent frame' : 'frame'} ${number}`;
-
-/** The slots of a large ring that are drawn: those near the head. */
-function shownSlots(size, head) {
-  if (size <= 64) return [...Array(size).keys()];
-  return [...Array(48).keys()].map(n => (head - 16 + n + size) % size);
-}
-
-function ringOf(name, cells, hot) {
-  const size = +cells[name] || 0;
-  if (!size) return '';
-  const letter = name[0].toUpperCase(), head = +(cells[letter + 'DH'] || 0), tail = +(cells[letter + 'DT'] || 0);
-  const slots = shownSlots(size, head), count = slots.length, R = 102, r = Math.min(25, 2.5 * R / count);
-  const title = name === 'rx' ? 'Receive ring' : 'Transmit ring';
-  let out = `<text x="170" y="${166}" text-anchor="middle" font-weight="bold">${title}</text>` +
-    `<text x="170" y="184" text-anchor="middle">${size} slots</text>`, spoken = `${title}, ${size} slots.`;
-  slots.forEach((slot, n) => {
-    const angle = 2 * Math.PI * n / count - Math.PI / 2, x = 170 + R * Math.cos(angle), y = 170 + R * Math.sin(angle);
-    const label = `${name}[${slot}]`, it = slotOf(cells, label);
-    const marks = [slot === head && letter + 'DH', slot === tail && letter + 'DT'].filter(Boolean);
-    const about = `${label}: ${D.slots[it.state]}${it.frame === '' ? '' : `, ${frameName(name, it.frame)}`}`;
-    if (it.state !== 'd' || marks.length) spoken += ` ${about}${marks.length ? `, ${marks.join(' and ')}` : ''}.`;
-    out += `<circle data-slot="${label}" class="${hot.has(label) ? 'hot' : ''}${chosen === label ? ' chosen' : ''}" ` +
-      `cx="${x}" cy="${y}" r="${r}" fill="var(--${it.state})"><title>${about}</title></circle>`;
-    if (r >= 14) {
-      out += `<text x="${x}" y="${y - 1}" text-anchor="middle" pointer-events="none">${slot}</text>` +
-        `<text x="${x}" y="${y + 13}" text-anchor="middle" pointer-events="none">${short[it.state]}</text>`;
-    }
-    if (it.frame !== '' && r >= 14) {
-      out += `<text x="${170 + (R - r - 12) * Math.cos(angle)}" y="${174 + (R - r - 12) * Math.sin(angle)}" ` +
-        `text-anchor="middle">${name === 'tx' ? 's' : 'f'}${it.frame}</text>`;
-    }
-    const far = R + r + 17, left = 170 + far * Math.cos(angle), top = 174 + far * Math.sin(angle) - 6 * (marks.length - 1);
-    out += marks.map((mark, m) => `<text x="${left}" y="${top + 12 * m}" text-anchor="middle" font-weight="bold">` +
-      `${mark}</text>`).join('');
-  });
-  return `<svg viewBox="0 0 340 340" role="img" aria-label="${escaped(spoken)}">${out}</svg>`;
-}
 
 const table = (title, lines) => lines.length ? `<h2>${title}</h2><table>${lines.join('')}</table>` : '';
 const line = (changed, ...texts) => `<tr${changed ? ' class="changed"' : ''}>${texts.map((text, n) =>
   `<t${n ? 'd' : 'h scope="row"'}>${escaped(text)}</t${n ? 'd' : 'h'}>`).join('')}</tr>`;
 
 function registers(cells, changed) {
-  return table('Registers', D.shown.filter(name => cells[name] !== undefined).map(name => {
+  return table('Registers', SHOWN.filter(name => cells[name] !== undefined).map(name => {
     const more = name === 'ICR' && cells['ICR?'] ? ` (perhaps also ${cells['ICR?']})` : '';
-    return line(changed.has(name), name, `${cells[name]} ${bitNames(name, +cells[name])}${more}`);
+    return line(changed.has(name), name, `${valueIn(name, +cells[name])}${more}`);
   }));
 }
 
 function descriptor(label, cells) {
-  const digits = cells[label + '='];
-  if (!digits) return '';
-  const ring = label.slice(0, 2);
-  const lines = D.fields[ring].map(([begin, size, name]) => {
-    const bytes = digits.slice(2 * begin, 2 * begin + 2 * size).match(/../g).reverse().join('');
-    if (bytes.includes('.')) return line(false, `+${begin}`, name, 'not in the log');
-    const value = BigInt('0x' + bytes), bits = Object.entries(D.fieldBits[`${ring} ${name}`] || {})
-      .filter(([bit]) => value >> BigInt(bit) & 1n).map(([, one]) => one).join(' ');
-    return line(false, `+${begin}`, name, `${name === 'length' ? value : '0x' + value.toString(16)} ${bits}`);
-  });
-  return table(`Descriptor ${label}, ${D.slots[slotOf(cells, label).state]}`, lines);
+  const digits = cells[label + '='], ring = label.slice(0, 2);
+  return !digits ? '' : table(`Descriptor ${label}, ${SLOTS[slotOf(cells, label).state]}`,
+    NAMES.fields[ring].map(([begin, size, name]) => {
+      const bytes = digits.slice(2 * begin, 2 * begin + 2 * size);
+      const text = bytes.includes('.') ? 'not in the'
+        + ' log' : fieldText(ring, name, numberIn(bytes)).slice(name.length + 1);
+      return line(false, `+${begin}`, name, text);
+    }));
 }
 
-function buffersOf(cells, changed, buffers) {
-  const owners = {}, slots = ring => [...Array(+cells[ring] || 0).keys()].map(n => `${ring}[${n}]`);
-  for (const name of [...slots('rx'), ...slots('tx')]) {
-    const { state, frame, buffer } = slotOf(cells, name), ring = name.slice(0, 2);
-    if (!buffer || ring === 'tx' && state === 'd') continue;
-    const who = state === 'o' || state === 'p' ? 'the adapter' : 'the driver';
-    const more = frame === '' ? '' : `, ${frameName(ring, frame)}`;
-    (owners[buffer] = owners[buffer] || []).push({ text: `${who}: ${name}, ${D.slots[state]}${more}`,
-      changed: changed.has(name) });
-  }
-  const lines = [...buffers].sort((a, b) => a - b).slice(0, 256).map(buffer => {
-    const its = owners[buffer] || [{ text: 'the driver', changed: false }];
-    return line(its.some(one => one.changed), buffer, its.map(one => one.text).join('; and '));
-  });
-  return lines.length ? `<details${buffersAreOpen ? ' open' : ''} id="buffers"><summary>Buffers and their owners` +
-    `</summary><table>${lines.join('')}</table></details>` : '';
-}
-let buffersAreOpen = true;
-
-function placesOf(cells, changed) {
-  return D.places.hosts.map(host => table(`Host ${escaped(host)}: where its frames are`, D.places.stages.map(stage => {
-    const name = `${host} ${stage}`;
-    return line(changed.has(name), stage, cells[name] || '');
-  }))).join('');
+/** What a slot's buffers are, as pairs of an address and a text. The descriptor in memory may name another buffer than
+ * the one that the adapter has fetched.
+ */
+function buffersOf(name, { state, frame, buffer, fetched }) {
+  const ring = name.slice(0, 2), who = state === 'o' || state === 'p' ? 'the adapter' : 'the driver';
+  const isUnknown = buffer === '?' || fetched === '?';
+  const text = `${who}: ${name}, ${SLOTS[state]}${frame === '' ? '' : `, ${frameName(ring, frame)}`}`;
+  if (state === 'd') return buffer && buffer !== '?' && ring === 'rx' ? [[buffer, text]] : [];
+  if (!fetched) return isUnknown && state === 's' ? [] : [[buffer, text]];
+  const later = `the driver: in the descriptor of ${name}, but the adapter has fetched `
+    + `${fetched === '?' ? 'what was there before' : fetched}`;
+  return [[fetched, text], ...(buffer === '?' ? [] : [[buffer, later]])];
 }
 
-/** The slots that a row names, or that its step changes. */
+function ownersOf(cells, changed, buffers) {
+  const owners = new Map(), slots = ring => Array.from({ length: +cells[ring] || 0 }, (_, n) => `${ring}[${n}]`);
+  for (const one of [...buffers].sort((a, b) => a - b)) owners.set(one, []);
+  for (const name of [...slots('rx'), ...slots('tx')])
+    for (const [buffer, text] of buffersOf(name, slotOf(cells, name)))
+      owners.set(buffer, [...owners.get(buffer) || [], { text, changed: changed.has(name) }]);
+  const lines = [...owners].slice(0, MOST_BUFFERS).map(([buffer, its]) => line(its.some(one => one.changed),
+    buffer === '?' ? 'not in the log' : buffer, its.map(one => one.text).join('; and ') || 'the driver'));
+  return lines.length ? `<details${buffersAreOpen ? ' open' : ''} id="buffers"><summary>Buffers and their`
+    + ` owners</summary>`
+    + `<table>${lines.join('')}</table></details>` : '';
+}
+
+const placesOf = (cells, changed) => PLACES.hosts.map(host => table(`Host ${escaped(host)}: where its frames are`,
+  PLACES.stages.map(stage => line(changed.has(`${host} ${stage}`), stage, cells[`${host} ${stage}`] || '')))).join('');
+
+/** The slots that a step names, or changes. */
 function hotSlots(which, step) {
-  const names = rowOf(which, step).textContent.match(/\b[rt]x\[\d+\]/g) || [], change = D[which][step - D.first];
-  const all = change.filter((_, n) => n % 2 === 0).map(number => D.cells[number]);
-  return all.includes('rx') || all.includes('tx') ? new Set()
-    : new Set([...all.filter(name => /^[rt]x\[\d+\]$/.test(name)), ...names]);
+  const change = Object.keys(all[which].changes[step]), names = all[which].texts[step].match(/\b[rt]x\[\d+\]/g) || [];
+  if (change.includes('rx') || change.includes('tx')) return new Set();
+  return new Set([...change.filter(name => /^[rt]x\[\d+\]$/.test(name)), ...names]);
 }
 
 /** The slot whose descriptor is shown: the chosen one, or that of the last step with a slot. */
 function slotShown() {
   if (chosen) return chosen;
-  for (let step = now; step >= D.first; step--) {
+  for (let step = now; step >= first; step--) {
     const [slot] = hotSlots(side, step);
     if (slot) return slot;
   }
   return 'rx[0]';
 }
 
-const legend = () => `<p class="legend">${Object.entries(D.slots).map(([letter, name]) =>
+const legend = () => `<p class="legend">${Object.entries(SLOTS).map(([letter, name]) =>
   `<span style="background:var(--${letter})">${short[letter]} ${name}</span>`).join('')}</p>`;
 
 function showState() {
-  const row = rowOf(side, now), { cells, changed, buffers } = cellsAt(side, now), text = textOf(side, row);
-  const hot = hotSlots(side, now), label = slotShown();
-  const which = side === 'run' ? '' : ' (without deviations)';
-  let out = `<p><b>Step ${now}${which}</b> <span class="who">${escaped(actor(row))}: ${escaped(text)}</span></p>`;
-  if (D.places) {
+  const row = rowAt(side, now), { cells, changed, buffers } = cellsAt(side, now), text = textIn(side, row);
+  const hot = hotSlots(side, now), which = side === 'run' ? '' : ' (without deviations)';
+  const notes = side === 'run' ? notesOf(now) : '';
+  let out = `<p><b>Step ${now}${which}</b> <span class="who">${escaped(actor(row))}:`
+    + ` ${escaped(text)}</span></p>${notes}`;
+  if (PLACES) {
     out += placesOf(cells, changed);
   } else {
     const frames = [['rx', 'Receive'], ['tx', 'Transmit']].map(([ring, name]) => line(changed.has(`${ring} frames`),
       `${name} packet buffer`, (cells[`${ring} frames`] || '').split(' ').filter(Boolean)
         .map(one => frameName(ring, one)).join(', ') || 'empty'));
-    out += `<p><span class="line${cells.line ? ' up' : ''}">the interrupt line is ${cells.line ? 'asserted' : 'low'}` +
-      `</span></p><div class="rings">${ringOf('rx', cells, hot)}${ringOf('tx', cells, hot)}</div>` + legend() +
-      registers(cells, changed) + table('Packet buffers', frames) + descriptor(label, cells) +
-      buffersOf(cells, changed, buffers);
+    out += `<p><span class="line${cells.line ? ' up' : ''}">the interrupt line is ${cells.line ? 'asserted' : 'low'}`
+      + `</span></p><div class="rings">${ringOf('rx', cells, hot)}${ringOf('tx', cells, hot)}</div>` + legend()
+      + registers(cells, changed) + table('Packet buffers', frames) + descriptor(slotShown(), cells)
+      + ownersOf(cells, changed, buffers);
   }
   at('state').innerHTML = out;
-  at('told').textContent = `Step ${now}${which}, ${actor(row)}: ${text}. ` +
-    `Changed: ${[...changed].filter(name => !/=$/.test(name)).map(name => `${name} ${cells[name]}`).join(', ') || 'nothing'}.`;
+  const told = [...changed].filter(name => !/=$/.test(name)).map(name => `${name} ${cells[name]}`).join(', ');
+  at('told').textContent = `Step ${now}${which}, ${actor(row)}: ${text}. Changed: ${told || 'nothing'}.`;
 }
 
 /** Scrolls the list, and nothing around it, until a row is visible, or in the middle. */
@@ -182,12 +236,12 @@ function reveal(row, isCentered) {
 
 function show(step, which = side, keepsHash = false) {
   side = which;
-  now = Math.max(D.first, Math.min(D.first + runs[side].length - 1, step));
+  now = Math.max(first, Math.min(first + rowsOf[side].length - 1, step));
   document.querySelectorAll('.now').forEach(row => {
     row.classList.remove('now', 'right');
     row.removeAttribute('aria-current');
   });
-  const row = rowOf(side, now);
+  const row = rowAt(side, now);
   if (side === 'other' && !document.body.classList.contains('both')) compare(true);
   row.classList.add('now');
   row.classList.toggle('right', side === 'other');
@@ -196,133 +250,4 @@ function show(step, which = side, keepsHash = false) {
   at('number').value = now;
   if (!keepsHash) history.replaceState(null, '', side === 'run' ? `#${now}` : `#other${now}`);
   showState();
-}
-
-function compare(isOn) {
-  if (!D.other) return;
-  if (isOn) {
-    for (const row of rows) {
-      if (row.second === undefined || row.querySelector('s')) continue;
-      const text = document.createElement('s');
-      text.textContent = own(row).textContent;
-      row.append(text);
-    }
-  } else if (side === 'other') {
-    const same = rowOf('other', now).step;
-    show(same === undefined ? D.start : same, 'run');
-  }
-  document.body.classList.toggle('both', isOn);
-  at('compare').setAttribute('aria-pressed', isOn);
-  reveal(rowOf(side, now), true);
-}
-
-/** Shows where a frame was: each step that changed its place. */
-function trail(name) {
-  const index = D.cells.indexOf(name), links = [];
-  D.run.forEach((change, number) => {
-    const step = number + D.first;
-    for (let n = 0; n < change.length; n += 2)
-      if (change[n] === index) links.push(`<a href=#${step}>#${step}</a> ${escaped(change[n + 1])}`);
-  });
-  at('trail').innerHTML = links.length ? `<b>${escaped(name)}</b>: ${links.join(' \u2192 ')}` : '';
-  return links.length ? +/#(\d+)/.exec(links[0])[1] : null;
-}
-
-function find(text) {
-  rows.forEach(row => row.classList.remove('hit'));
-  const query = text.trim().toLowerCase();
-  hits = query ? runs.run.filter(row => `${row.firstElementChild.textContent} ${own(row).textContent}`.toLowerCase()
-    .includes(query)) : [];
-  hits.forEach(row => row.classList.add('hit'));
-  at('count').textContent = query ? `${hits.length} found` : '';
-  if (D.cells.includes(query)) trail(query);
-}
-
-function nextHit(by) {
-  const number = /^#?(\d+)$/.exec(at('search').value.trim());
-  if (number && !hits.length) return show(+number[1], 'run');
-  const steps = hits.map(row => row.step);
-  const next = by > 0 ? steps.find(step => step > now) : steps.reverse().find(step => step < now);
-  if (steps.length) show(next === undefined ? (by > 0 ? Math.min(...steps) : Math.max(...steps)) : next, 'run');
-}
-
-function nextOf(rowClass) {
-  const steps = runs.run.filter(row => row.classList.contains(rowClass)).map(row => row.step);
-  if (steps.length) show(steps.find(step => step > now && side === 'run') ?? steps[0], 'run');
-}
-
-const keys = {
-  ArrowRight: () => show(now + 1), ArrowDown: () => show(now + 1), ArrowLeft: () => show(now - 1),
-  ArrowUp: () => show(now - 1), ' ': event => show(now + (event.shiftKey ? -1 : 1)), PageDown: () => show(now + 10),
-  PageUp: () => show(now - 10), Home: () => show(0), End: () => show(Infinity), c: () =>
-    compare(!document.body.classList.contains('both')), d: () => nextOf('dev'), w: () => nextOf('why'),
-  o: () => swap(), n: () => nextHit(1), N: () => nextHit(-1), '/': () => at('search').focus(),
-  f: () => at('frame').focus(), '?': () => { at('help').hidden = !at('help').hidden },
-};
-
-/** Shows the step of the other run that is in the same row, or the nearest one before. */
-function swap() {
-  if (!D.other) return;
-  const key = side === 'run' ? 'second' : 'step';
-  for (let n = rows.indexOf(rowOf(side, now)); n >= 0; n--)
-    if (rows[n][key] !== undefined) return show(rows[n][key], side === 'run' ? 'other' : 'run');
-}
-
-addEventListener('keydown', event => {
-  if (event.ctrlKey || event.altKey || event.metaKey) return;
-  const tag = event.target.tagName;
-  if (tag === 'INPUT' || tag === 'SELECT') {
-    if (event.key === 'Escape') event.target.blur();
-    if (event.key === 'Enter' && event.target.id === 'search') nextHit(event.shiftKey ? -1 : 1);
-    return;
-  }
-  if (event.key === ' ' && /^(BUTTON|A|SUMMARY)$/.test(tag)) return;
-  if (keys[event.key]) {
-    event.preventDefault();
-    keys[event.key](event);
-  }
-});
-at('steps').addEventListener('click', event => {
-  const row = event.target.closest('li');
-  if (!row || event.target.closest('a')) return;
-  const isRight = row.step === undefined || row.second !== undefined && event.target.closest('s');
-  show(isRight ? row.second : row.step, isRight ? 'other' : 'run');
-});
-at('state').addEventListener('click', event => {
-  const slot = event.target.closest('[data-slot]');
-  if (slot) {
-    chosen = chosen === slot.dataset.slot ? null : slot.dataset.slot;
-    showState();
-  }
-});
-at('state').addEventListener('toggle', event => { buffersAreOpen = event.target.open }, true);
-at('back').onclick = () => show(now - 1);
-at('next').onclick = () => show(now + 1);
-at('wrong').onclick = () => nextOf('why');
-at('deviation').onclick = () => nextOf('dev');
-at('compare').onclick = () => compare(!document.body.classList.contains('both'));
-at('keys').onclick = () => keys['?']();
-at('search').oninput = event => find(event.target.value);
-at('number').onchange = event => show(+event.target.value, 'run');
-at('frame').onchange = event => {
-  const step = trail(event.target.value);
-  if (step !== null) show(step, 'run');
-};
-const numbers = new Set(D.run.flatMap(change => change.filter((_, n) => n % 2 === 0)));
-at('frame').innerHTML = '<option value="">where was frame ..</option>' + D.cells.filter((name, number) =>
-  numbers.has(number) && /^(sent )?frame \d+$/.test(name)).map(name => `<option>${name}</option>`).join('');
-
-function follow() {
-  const found = /^#(other)?(\d+)$/.exec(location.hash);
-  if (found && (!found[1] || D.other)) show(+found[2], found[1] ? 'other' : 'run', true);
-  return found;
-}
-addEventListener('hashchange', follow);
-if (!D.other) at('compare').hidden = true;
-if (!rows.some(row => row.classList.contains('dev'))) at('deviation').hidden = true;
-if (!rows.some(row => row.classList.contains('why'))) at('wrong').hidden = true;
-if (!runs.run.length) at('state').textContent = 'The log has no steps.';
-else if (!follow()) {
-  show(D.start, 'run', true);
-  reveal(rowOf('run', now), true);
 }

@@ -141,9 +141,10 @@ class Browser:
         self.call("Emulation.setEmulatedMedia", media=kind,
                   features=[{"name": "prefers-color-scheme", "value": scheme}])
 
-    def picture(self, path):
-        """Stores a screenshot."""
-        data = base64.b64decode(self.call("Page.captureScreenshot", format="png")["data"])
+    def picture(self, path, is_whole=False):
+        """Stores a screenshot: of what is on the screen, or of the whole page."""
+        told = self.call("Page.captureScreenshot", format="png", captureBeyondViewport=is_whole)
+        data = base64.b64decode(told["data"])
         with open(path, "wb") as file:
             file.write(data)
         return data

@@ -1,7 +1,8 @@
 """Tests the pages of runs: what each step changes, why a run fails, and the files that the programs write.
 
 The states are compared with the server's: what the driver reads, and the rings after each row. race_pages_rules.py
-tests the rules with short logs, and race_pages_browser.py opens pages in Chromium.
+tests the rules with short logs, and race_pages_browser.py opens pages in Chromium. Node.js runs the scripts of a page
+here; page_script.py.
 """
 
 import os
@@ -13,15 +14,14 @@ from random import Random
 
 from finder.draw import drawing_of
 from finder.names import OF_STEPS
-from finder.page.compare import FARTHEST, Aligner, align, difference
+from finder.page.c_file import c_file
 from finder.page.from_finder import of_access, of_event, of_run
 from finder.page.log import Log, LogError, RunLog, Step, json_of, log_in
-from finder.page.reasons import QUIET, findings, reasons
-from finder.page.state import State
-from finder.page.write import page
+from finder.page.write import page, shortened, template
 from finder.schedule import parse
 from finder.target import Target
-from harness import DRIVERS, TOP, text_of
+from harness import DRIVERS, TOP, not_run, text_of
+from page_script import logic
 from race_finder import FINDER, FOUND, PASSES, SMALL, SMALLEST, USAGE, find, replay
 from server import LIMIT
 
@@ -50,19 +50,15 @@ def logs_of(server, command, schedule):
     return of_run(run_of(server, command, schedule), "the schedule"), of_run(run_of(server, command), "without")
 
 
-def rings_of(state):
-    return tuple((ring.base, 16 * ring.size(), ring.head, ring.tail) for ring in state.rings.values())
-
-
 def differ(run):
     """The first row of a run after which the state isn't what the server reports, with the reasons."""
-    state = State()
-    for row in run.rows:
-        step = of_access(row, "driver") if row.place else of_event(row, row.line.split(" "), "driver")
-        if step:
-            state.play(step)
-        if state.wrong or step and rings_of(state) != tuple(tuple(ring) for ring in row.rings):
-            return row.line, state.wrong, rings_of(state), row.rings
+    rows = [(row, of_access(row, "driver") if row.place else of_event(row, row.line.split(" "), "driver"))
+            for row in run.rows]
+    rows = [(row, step) for row, step in rows if step]
+    states_of_run = logic().call("states", RunLog("run", steps=tuple(step for _, step in rows)))
+    for (row, _), (wrong, rings) in zip(rows, states_of_run):
+        if wrong or rings != [list(ring) for ring in row.rings]:
+            return row.line, wrong, rings, row.rings
     return None
 
 
@@ -74,10 +70,10 @@ def random_states(server):
         server.check(f"random states: seed {seed}", (run.fault, differ(run)), (None, None))
         log = of_run(run, "random")
         outcomes |= {(step.action, step.outcome) for step in log.steps if step.actor != "driver"}
-        rows = Elements(page(Log("random", log))).rows()
-        last = max((one.step for one in findings(log)), default=0)
-        server.check(f"random states: seed {seed}, its page", (len(rows), last < len(log.steps)),
-                     (len(log.steps), True))
+        last = max((one["step"] for one in logic().findings(log)), default=0)
+        texts = logic().call("shownOf", log)["texts"]
+        server.check(f"random states: seed {seed}, its texts", (len(texts), all(texts), last < len(log.steps)),
+                     (len(log.steps), True, True))
     wanted = {(kind, outcome) for kind, its in OF_STEPS.items() for outcome in its} - {("txput", "wirefull")}
     server.check("random states: all outcomes", wanted - outcomes, set())
     fates = {outcome for action, outcome in outcomes if action == "arrive"}
@@ -94,17 +90,14 @@ def states(server):
             run = run_of(server, command, seed=seed)
             log = of_run(run, name)
             server.check(f"states: {name}, seed {seed}", (run.fault, differ(run)), (None, None))
-            found = [one for one in findings(log) if one.kind != QUIET]
-            server.check(f"states: {name}, seed {seed}: no rule finds anything", (found, reasons(log, None)), ([], []))
+            server.check(f"states: {name}, seed {seed}: no rule finds anything",
+                         (logic().kinds(log), logic().reasons(log)), ([], []))
 
 
 def frames(server):
     """In the run without deviations, the driver loads DD of each stored frame, and each sent frame is on the wire."""
     run = of_run(run_of(server, [*STAGED, "stages", "right"]), "right")
-    state = State()
-    for step in run.steps:
-        state.play(step)
-    cells = {cell: text for cell, text in state.cells.items() if "frame " in cell}
+    cells = {cell: text for cell, text in logic().call("played", run)["cells"].items() if "frame " in cell}
     came = [step for step in run.steps if step.action == "arrive"]
     put = [step for step in run.steps if step.action == "frame"]
     names = [f"frame {at}" for at in range(len(came))] + [f"sent frame {at}" for at in range(len(put))]
@@ -128,80 +121,104 @@ def rules(server):
         count += 1
         command = [*STAGED, *found[2].split()]
         run, other = logs_of(server, command, (found[1] or "").replace("\\n", "\n"))
-        told = reasons(run, other if run.schedule else None)
-        server.check(f"rules: {found[2]}", told[0].section if told else None, heading)
-        for one in told:
-            server.check(f"rules: {found[2]}: RACES has {one.section!r}",
-                         f"\n## {one.section}\n" in text_of("docs", "RACES.md"), True)
+        told = logic().reasons(run, other if run.schedule else None)
+        server.check(f"rules: {found[2]}", told[0]["section"] if told else None, heading)
     server.holds("rules: there are charts", count > 12, f"{count}")
+    for section in logic().call("constants")["sections"].values():
+        server.check(f"rules: RACES has {section!r}", f"\n## {section}\n" in text_of("docs", "RACES.md"), True)
     run, other = logs_of(server, [*QUEUE, "txstop"], TXSTOP)
     lanes_of_run = list(dict.fromkeys(step.actor for step in run.steps if step.is_access()))
     server.check("rules: txstop, the handler has a lane", lanes_of_run, ["driver", "handler"])
-    server.check("rules: txstop", [(one.kind, run.steps[one.step][1:4]) for one in reasons(run, other)],
-                 [(QUIET, ("read", "6.24", "ICR"))])
+    server.check("rules: txstop", [(one["kind"], one["isHint"], run.steps[one["step"]][1:4])
+                                   for one in logic().reasons(run, other)], [("quiet", True, ("read", "6.24", "ICR"))])
 
 
 def pairs(server):
     """All steps of both runs are in the pairs, in order. Accesses in one pair are the same, up to the first
-    difference.
+    difference. After it, as many accesses of a round as possible are in pairs: `least` of those of the shorter run.
     """
-    for name, command, schedule in [("late", [*STAGED, "stages", "late"], "4.6 rxdone before read ICR"),
-                                    ("length", [*STAGED, "stages", "length"], "4.8 rxdone before read rx[1]+12"),
-                                    ("txstop", [*QUEUE, "txstop"], TXSTOP)]:
+    for name, command, schedule, least in [
+            ("late", [*STAGED, "stages", "late"], "4.6 rxdone before read ICR", 1),
+            ("length", [*STAGED, "stages", "length"], "4.8 rxdone before read rx[1]+12", 0.9),
+            ("txstop", [*QUEUE, "txstop"], TXSTOP, 0.9)]:
         run, other = logs_of(server, command, schedule)
-        aligned, first = align(run, other), difference(run, other)
+        aligned, first = logic().pairs(run, other), logic().call("difference", run, other)
         for side, log in enumerate((run, other)):
             server.check(f"pairs: {name}, run {side}", [pair[side] for pair in aligned if pair[side] is not None],
                          list(range(len(log.steps))))
-        end = len(run.steps) if first.step is None else first.step
+        both = [(run.steps[one], other.steps[two]) for one, two in aligned if None not in (one, two)]
+        server.check(f"pairs: {name}, alike", [pair for pair in both if pair[0][:2] != pair[1][:2]
+                                               or pair[0].name != pair[1].name], [])
+        end = len(run.steps) if first["step"] is None else first["step"]
         same = [(step, its) for step, its in aligned if step is not None and step < end and run.steps[step].is_access()]
         server.check(f"pairs: {name}, before the first difference",
                      [pair for pair in same if None in pair or run.steps[pair[0]][:7] != other.steps[pair[1]][:7]], [])
+        count = min(sum(step.is_access() for step in log.steps) for log in (run, other))
+        paired = sum(one.is_access() for one, _ in both)
+        server.holds(f"pairs: {name}, most accesses", paired >= least * count, f"{paired} of {count}")
     same = of_run(run_of(server, [*STAGED, "stages", "late"]), "same")
-    server.check("pairs: of equal runs", (difference(same, same), align(same, same)),
+    server.check("pairs: of equal runs", (logic().call("difference", same, same), logic().pairs(same, same)),
                  (None, [(at, at) for at in range(len(same.steps))]))
 
 
+def longest(ours, theirs):
+    """The length of the longest common subsequence."""
+    above = [0] * (len(theirs) + 1)
+    for one in ours:
+        row = [0]
+        for at, two in enumerate(theirs):
+            row.append(above[at] + 1 if one == two else max(above[at + 1], row[at]))
+        above = row
+    return above[-1]
+
+
 def aligned(server):
-    """Any two lists are aligned: all steps are in the pairs, in order, and those in one pair are alike. After an
-    inserted part of at most FARTHEST steps, all steps are aligned again.
+    """Any two lists of accesses are aligned. All steps are in the pairs, in order. Those in one pair are alike, and no
+    more can be in pairs. Rounds are aligned with rounds of the same number.
     """
-    random = Random(3)
-    wrong = []
+    random, wrong = Random(3), []
     for _ in range(300):
-        keys, others = ([(random.choice("abcd"),) for _ in range(random.randrange(40))] for _ in range(2))
-        found = list(Aligner(keys, others).pairs())
-        ours, theirs = ([pair[side] for pair in found if pair[side] is not None] for side in (0, 1))
-        alike = all(keys[at] == others[its] for at, its in found if None not in (at, its))
-        if (ours, theirs, alike) != (list(range(len(keys))), list(range(len(others))), True):
-            wrong.append((keys, others, found))
+        ours, theirs = ([Step("driver", "read", f"1.{at}", random.choice("ABCD") + "CTL", 4, 7)
+                         for at in range(random.randrange(12))] for _ in range(2))
+        found = logic().pairs(RunLog("one", steps=tuple(ours)), RunLog("two", steps=tuple(theirs)))
+        both = [pair for pair in found if None not in pair]
+        indices = [[pair[side] for pair in found if pair[side] is not None] for side in (0, 1)]
+        names = [step.name for step in ours], [step.name for step in theirs]
+        prefix = next((at for at, (one, two) in enumerate(zip(*names)) if one != two), min(map(len, names)))
+        if (indices != [list(range(len(ours))), list(range(len(theirs)))]
+                or any(names[0][one] != names[1][two] for one, two in both)
+                or len(both) != prefix + longest(names[0][prefix:], names[1][prefix:])):
+            wrong.append((names, found))
     server.check("aligned: random lists", wrong, [])
-    keys = [(str(random.randrange(1000)),) for _ in range(2000)]
-    for size, count in ((1, 2000), (FARTHEST, 2000)):
-        more = [*keys[:700], *[("more",)] * size, *keys[700:]]
-        for one, other in ((keys, more), (more, keys)):
-            found = [pair for pair in Aligner(one, other).pairs() if None not in pair]
-            server.check(f"aligned: {size} more", len(found), count)
+    steps = tuple(Step("driver", "read", f"{number}.1", "ICR", 4, number) for number in range(1, 9))
+    for out in (2, 5):
+        found = logic().pairs(RunLog("one", steps=steps), RunLog("two", steps=steps[:out] + steps[out + 1:]))
+        server.check(f"aligned: without round {out + 1}", [pair for pair in found if None in pair], [(out, None)])
+    long = tuple(Step("driver", "read", f"1.{at}", random.choice("ABCD") + "CTL", 4, 7) for at in range(5000))
+    found = logic().pairs(RunLog("one", steps=long), RunLog("two", steps=(steps[0], *long)))
+    paired = sum(None not in pair for pair in found)
+    server.holds("aligned: long rounds", paired > 4000 and len(found) == 2 * 5001 - 1 - paired, f"{paired}")
 
 
 class Elements(HTMLParser):
-    """The elements of a page: their names, their classes, and the addresses that they name."""
+    """The elements of a page, the addresses that they name, and the log."""
 
     def __init__(self, text):
         super().__init__()
-        self.found, self.links, self.texts = [], [], []
+        self.found, self.links, self.log, self.is_log = [], [], "", False
         self.feed(text)
 
     def handle_starttag(self, tag, attrs):
         words = dict(attrs)
-        self.found.append((tag, words.get("class") or ""))
+        self.found.append(tag)
         self.links += [words[name] for name in ("href", "src", "action", "data") if words.get(name)]
+        self.is_log = words.get("id") == "data"
+
+    def handle_endtag(self, _tag):
+        self.is_log = False
 
     def handle_data(self, data):
-        self.texts.append(data)
-
-    def rows(self):
-        return [names for tag, names in self.found if tag == "li"]
+        self.log += data if self.is_log else ""
 
 
 def sizes(server):
@@ -210,22 +227,14 @@ def sizes(server):
                                     ("rdt", [*STAGED, "stages", "rdt"], "58.5 rxdata before write rx[2]"),
                                     ("queue", [*QUEUE, "right"], "6.15 tx before read STATUS")]:
         run, other = logs_of(server, command, schedule)
-        text = page(Log(name, run, other if schedule else None))
-        steps = max(1000, len(run.steps))
+        log = Log(name, run, other if schedule else None)
+        text = page(log)
+        steps = max(1000, sum(len(one.steps) for one in (run, other if schedule else None) if one))
         server.holds(f"sizes: {name}", len(text.encode()) <= MOST_BYTES * steps // 1000, f"{len(text)}, {steps} steps")
         elements = Elements(text)
-        server.check(f"sizes: {name}: its rows", sum("gap" not in row.split() for row in elements.rows()),
-                     len(run.steps))
-        others = [link for link in elements.links if not re.fullmatch(r"#\d+", link)]
-        server.check(f"sizes: {name}: nothing outside", (others, re.findall(r"https?:|@import|url\(|fetch\(", text)),
-                     ([], []))
-    run = of_run(run_of(server, [*STAGED, "stages", "right"]), "long")
-    long = RunLog("long", (), "it fails", tuple(run.steps) * 20)
-    elements = Elements(page(Log("long", long)))
-    server.check("sizes: a long run is cut", len(elements.rows()), 4000)
-    server.check("sizes: the page states it",
-                 re.search(r"The page has the steps \d+ to \d+ of (\d+)", " ".join(elements.texts))[1],
-                 str(len(long.steps)))
+        server.check(f"sizes: {name}: its log", log_in(elements.log) == shortened(log), True)
+        server.check(f"sizes: {name}: nothing outside",
+                     (elements.links, re.findall(r"https?:|@import|url\(|fetch\(", text)), ([], []))
 
 
 def escapes(server):
@@ -234,27 +243,24 @@ def escapes(server):
     run = RunLog(bad, (bad,), bad, (Step("driver", "mark", outcome=bad), Step("driver", "read", "1.1", bad, 4),
                                     Step("adapter", "rxdata", outcome=bad), Step(bad, "mark", bad)))
     text = page(Log(bad, run, run)).encode("utf-8", "replace").decode()
-    plain = Elements(page(Log("x", RunLog("x", ("x",), "x", (Step("driver", "mark", outcome="x"),
-                                                              Step("driver", "read", "1.1", "x", 4),
-                                                              Step("adapter", "rxdata", outcome="x"),
-                                                              Step("y", "mark", "x"))))))
-    both = [[tag for tag, _ in elements.found if tag != "s"] for elements in (Elements(text), plain)]
-    server.check("escapes: the elements of the page", both[0], both[1])
+    elements, plain = Elements(text), Elements(page(Log("x", RunLog("x"))))
+    server.check("escapes: the elements of the page", elements.found, plain.found)
     server.check("escapes: the end of the script", text.count("</script>"), 2)
+    server.check("escapes: the log", log_in(elements.log).run == run, True)
+    for part in template():
+        server.check("escapes: the template has no mark left", re.findall(r"\b(TITLE|STYLE|DATA|SCRIPT)\b", part), [])
 
 
 def lanes(server):
     """Each actor has a lane: the processors of a driver, its handler if the log has one, the adapter, and the wire."""
-    def lanes_for(*actors):
-        text = page(Log("x", RunLog("x", steps=tuple(Step(actor, "mark", outcome="x") for actor in actors))))
-        return re.findall(r'<b style="grid-column:\d+">([^<]*)</b>', text)
     for actors, wanted in [(["wire", "driver"], ["driver", "adapter", "wire"]),
                            (["adapter", "handler", "driver"], ["driver", "handler", "adapter", "wire"]),
                            (["processor 1", "adapter", "processor 0"],
                             ["processor 1", "processor 0", "adapter", "wire"]),
                            (["driver", "processor 1", "handler"],
                             ["driver", "processor 1", "handler", "adapter", "wire"])]:
-        server.check(f"lanes: {actors}", lanes_for(*actors), wanted)
+        run = RunLog("x", steps=tuple(Step(actor, "mark", outcome="x") for actor in actors))
+        server.check(f"lanes: {actors}", logic().call("lanes", run), wanted)
 
 
 def json(server):
@@ -283,18 +289,17 @@ def files(server):
         plain = run()
         status, out, errors = run("--html", "race.html")
         server.check(f"files: {name}, the output is the same", (status, out, errors), plain)
-        text = server.get("race.html").decode()
-        rows = Elements(text).rows()
-        server.check(f"files: {name}, the page", (status, sum("dev" in row.split() for row in rows),
-                                                  "finished too late" in text), (FOUND, 2, True))
-        server.check(f"files: {name}, beside the run without deviations", '"other":[[' in text, True)
+        log = log_in(Elements(server.get("race.html").decode()).log)
+        server.check(f"files: {name}, the page", (status, sum(step.is_deviation for step in log.run.steps),
+                                                  "finished too late" in log.run.fault), (FOUND, 2, True))
+        server.check(f"files: {name}, beside the run without deviations", log.other.fault, None)
         server.remove("race.html")
     for path in ("none/x.html", "small/", ".", ""):
         status, _, errors = replay(server, "", "--html", path, command=["true"])
         server.check(f"files: {path!r} is refused", (status, "--html" in errors), (USAGE, True))
     status, _, errors = replay(server, "", "--html", "race.html", command=["sh", "small", "right"])
-    server.check("files: a run that passes", (status, "The test passes." in server.get("race.html").decode(), errors),
-                 (PASSES, True, ""))
+    log = log_in(Elements(server.get("race.html").decode()).log)
+    server.check("files: a run that passes", (status, log.run.fault, errors), (PASSES, None, ""))
 
 
 def refused(server):
@@ -314,7 +319,9 @@ def refused(server):
             (("--html", "x", "--replay", "schedule", "--", "./none"), 3, "./none: No such file"),
             (("--html", "x", "--replay", "schedule", "--", "true"), 3, "isn't a line of a log"),
             (("--html", "x", "--replay", "schedule", "--seconds", "1", "--", "./endless"), 3, "no end within 1"),
-            (("--html", "x", "--seconds", "0", "log"), 2, "--seconds")]:
+            (("--html", "x", "--seconds", "0", "log"), 2, "--seconds"),
+            (("--template", "x", "--html", "x"), 2, "--template: it goes without"),
+            (("--template", "none/x"), 3, "none/x: No such file")]:
         ran = server.execute(*PAGE, *words)
         server.check(f"refused: {' '.join(words)}", (ran[0], ran[1], told in ran[2] and "Traceback" not in ran[2]),
                      (status, "", True))
@@ -341,9 +348,15 @@ def example(server):
     same = server.get("race.html").decode() == text_of("docs", "race.html")
     server.check("example: it is made", (status, errors), (FOUND, ""))
     server.holds("example: docs/race.html", same, f"make it by: {told}")
+    same = c_file() == text_of("bindings", "c", "explore", "page.c")
+    server.holds("example: page.c", same, "make it by: tools/race_page --template bindings/c/explore/page.c")
 
 
 def all_cases(server):
-    for part in [states, random_states, frames, rules, pairs, aligned, sizes, escapes, lanes, json, files, refused,
-                 example]:
+    for part in [sizes, escapes, json, files, refused, example]:
+        part(server)
+    if not logic():
+        not_run("what pages show", "there is neither Node.js nor Chromium")
+        return
+    for part in [states, random_states, frames, rules, pairs, aligned, lanes]:
         part(server)

@@ -9,13 +9,14 @@ import os
 import subprocess
 import sys
 
+from finder.page.from_explorer import of_text
 from finder.page.from_scenario import STAGES
 from finder.page.log import Log, RunLog, Step
-from finder.page.state import SEEN, SLOTS
 from finder.page.write import page
 from browser import NAMES, Browser, program
 from harness import TOP, not_run
 from race_pages import QUEUE, STAGED, TXSTOP, logs_of
+from race_pages_rules import DONE, FRAME, LAP, text_of
 
 FOLDER = os.path.join(TOP, ".build", "race_pages")
 NOW = "document.querySelector('.now')"
@@ -42,6 +43,23 @@ CONTRAST = """(() => {
     if (ratio < least[0]) least = [ratio, element.outerHTML.slice(0, 120)];
   }
   return least;
+})()"""
+# What is cut on a phone: boxes that hide text, rings that aren't on the screen, and texts of rings with fewer than 9
+# pixels
+CUT = """(() => {
+  const box = one => one.getBoundingClientRect(), width = document.documentElement.clientWidth;
+  return [...[...document.querySelectorAll('header, .state, header p, .state em')].filter(one =>
+      getComputedStyle(one).overflowY !== 'visible' && one.scrollHeight > one.clientHeight + 1
+      || box(one).right > width),
+    ...[...document.querySelectorAll('.ring svg, .ring text')].filter(one => box(one).left < 0 || box(one).right > width),
+    ...[...document.querySelectorAll('.ring text')].filter(one => one.textContent && box(one).height < 9)]
+    .map(one => one.outerHTML.slice(0, 80));
+})()"""
+# The texts of rings that are over other ones
+OVER = """(() => {
+  const box = one => one.getBoundingClientRect(), texts = [...document.querySelectorAll('.ring text')];
+  const meet = (a, b) => a.left < b.right - 1 && b.left < a.right - 1 && a.top < b.bottom - 3 && b.top < a.bottom - 3;
+  return texts.filter(one => texts.some(two => one !== two && meet(box(one), box(two)))).map(one => one.textContent);
 })()"""
 # The elements for input without a name for a screen reader
 UNNAMED = """[...document.querySelectorAll('button, input, select, svg')].filter(one => !(one.getAttribute('aria-label')
@@ -80,7 +98,7 @@ def late(server, browser, address, run, other):
     owners = browser.value("[...document.querySelectorAll('#buffers tr')].map(one => one.textContent)")
     server.check("late: buffers", [text in owners for text in ("0x10100the driver: rx[1], finished, frame 1",
                                                              "0x10200the adapter: rx[2], offered")], [True, True])
-    server.check("late: what changed", browser.value("document.querySelector('tr.changed').textContent"), "ICR0x0 ")
+    server.check("late: what changed", browser.value("document.querySelector('tr.changed').textContent"), "ICR0x0")
     picture(browser, "late")
     for key, text, wanted in [("ArrowLeft", "", icr - 1), ("ArrowUp", "", icr - 2), (" ", " ", icr - 1),
                               ("ArrowDown", "", icr), ("PageUp", "", icr - 10), ("Home", "", 0),
@@ -111,16 +129,38 @@ def finds(server, browser, address, run):
     server.check("search: found", (browser.value("document.querySelectorAll('.hit').length"),
                                    browser.value("document.getElementById('count').textContent")),
                  (len(hits), f"{len(hits)} found"))
+    browser.press("c", "c")
+    server.check("search: a key of the page is a letter here", (browser.value("document.body.className"), browser.value(
+        "document.getElementById('search').value")), ("", "read rx[0]+8c"))
+    browser.press("Backspace")
+    browser.value("find('read rx[0]+8'); document.getElementById('search').value = 'read rx[0]+8'")
+    now = int(browser.value(STEP).split()[1])
+    browser.press("ArrowDown")
+    server.check("search: arrows step in the box, too", browser.value(STEP), f"Step {now + 1}")
+    browser.press("Home")
+    browser.value("show(0)")
     browser.press("Enter", "\r")
     server.check("search: the first", browser.value(STEP), f"Step {hits[0]}")
-    server.check("search: a key of the page is a letter here", browser.value("document.body.className"), "")
-    browser.value("document.activeElement.blur()")
+    for key, text, wanted in [("ArrowDown", "", hits[0] + 1), ("ArrowRight", "", hits[0] + 2),
+                              ("ArrowUp", "", hits[0] + 1), ("n", "n", hits[0]), ("N", "N", hits[0])]:
+        browser.press(key, text)
+        server.check(f"search: after Enter, the key {key} is one of the page", browser.value(STEP), f"Step {wanted}")
+    browser.press("/", "/")
+    browser.press("Escape")
+    browser.press("ArrowRight")
+    server.check("search: after Escape, too", browser.value(STEP), f"Step {hits[0] + 1}")
+    browser.value("document.getElementById('number').focus(); document.getElementById('number').value = 5;"
+                  "document.getElementById('number').dispatchEvent(new Event('change'))")
+    browser.press("ArrowRight")
+    server.check("number: arrows step after it", browser.value(STEP), "Step 6")
     browser.value("const list = document.getElementById('frame'); list.value = 'frame 1';"
                   "list.dispatchEvent(new Event('change'))")
     steps = browser.value("[...document.querySelectorAll('#trail a')].map(one => +one.textContent.slice(1))")
     wanted = [at for at, step in enumerate(run.steps) if step.action in ("arrive", "rxdata", "rxdone")][3:6]
     server.check("frame 1: where it was", steps, wanted)
     server.check("frame 1: its arrival is shown", browser.value(STEP), f"Step {wanted[0]}")
+    browser.press("ArrowRight")
+    server.check("frame 1: arrows step after it", browser.value(STEP), f"Step {wanted[0] + 1}")
     server.check("frames: all are in the list", browser.value("document.querySelectorAll('#frame option').length - 1"),
                  sum(step.action == "arrive" for step in run.steps))
 
@@ -139,7 +179,7 @@ def compares(server, browser, address, run, other):
     server.check("compare: rows differ only from the first difference on", [at for at in differs if at < first], [])
     picture(browser, "txstop-compare")
     owners = browser.value("[...document.querySelectorAll('#buffers tr')].map(one => one.textContent)")
-    sent = f"0x20000the driver: tx[0], {SLOTS[SEEN]}, sent frame 0"
+    sent = "0x20000the driver: tx[0], finished, and the driver has loaded DD, sent frame 0"
     server.check("compare: buffers of sent frames", (sent in owners, len(owners)), (True, 8 + 3))
     browser.press("Home")
     browser.press("o", "o")
@@ -176,7 +216,9 @@ def looks(server, browser, address, name):
             server.check(f"{what}: names for screen readers", browser.value(UNNAMED), [])
             told = browser.value("document.getElementById('told').textContent")
             server.check(f"{what}: the step is told", told.startswith(browser.value(STEP).split(" (")[0]), True)
-            picture(browser, f"{name}-{scheme}-{size[0]}")
+            if size == PHONE:
+                server.check(f"{what}: what is cut", browser.value(CUT), [])
+            browser.picture(os.path.join(FOLDER, f"{name}-{scheme}-{size[0]}.png"), size == PHONE)
     browser.size(*WIDE)
     browser.media("light", "print")
     hidden = browser.value("getComputedStyle(document.querySelector('nav')).display")
@@ -221,8 +263,41 @@ def large(server, browser):
     server.check("large: the ring", [text in ring for text in ("4096 slots", "rx[4090]: offered, RDH.",
                                                               "rx[4]: offered.", "rx[5]: the driver's, RDT.")],
                  [True] * 4)
+    for size in (16, 32, 128):
+        steps = [Step("driver", "write", "0.1", "RDLEN", 4, 16 * size),
+                 Step("driver", "write", "0.2", "RDT", 4, size - 1),
+                 *[Step("wire", "arrive", "0.3", "", 60, outcome="stored"), Step("adapter", "rxdata", outcome="moved"),
+                   Step("adapter", "rxdone", outcome="done")] * 3]
+        browser.open(stored(f"ring-{size}", page(Log("ring", RunLog("ring", steps=tuple(steps))))))
+        labels = browser.value("[...document.querySelectorAll('.ring text')].map(one => one.textContent)")
+        numbers = [int(label) for label in labels if label.isdigit()]
+        server.check(f"ring of {size}: labels",
+                     (browser.value(OVER), len(numbers) >= 6, "RDH" in labels, "RDT" in labels), ([], True, True, True))
+        ranges = browser.value("document.querySelector('.ranges').textContent")
+        server.check(f"ring of {size}: its slots", ranges, "rx: 0 finished, frame 0; 1 finished, frame 1; 2 finished, "
+                     f"frame 2; 3 to {size - 2} offered; {size - 1} the driver's")
+        picture(browser, f"ring-{size}")
+    browser.open(f"file://{os.path.join(FOLDER, 'large.html')}")
     server.check("large: slots", (browser.value("document.querySelectorAll('circle').length"), browser.troubles()),
                  (48, []))
+
+
+def owners(server, browser):
+    """The table of buffers states only what the log shows: here, a descriptor is stored after the adapter has used it.
+    """
+    late = f"write 0x3010, 16 bytes: {'00080100':0<32}"
+    run = of_text(text_of([*LAP, FRAME, DONE[0], late, DONE[1]]), "run")
+    browser.open(stored("owners", page(Log("owners", run))))
+    read = "[...document.querySelectorAll('#buffers tr')].map(one => one.textContent)"
+    adapter, later = "not in the logthe adapter: rx[1], ", "0x10800the driver: in the descriptor of rx[1], but the "
+    fetched = f"{later}adapter has fetched what was there before"
+    for step, wanted in [(5, [f"{adapter}offered; and the adapter: rx[2], offered"]),
+                         (8, [f"{adapter}in progress, frame 0; and the adapter: rx[2], offered"]),
+                         (9, [fetched, f"{adapter}in progress, frame 0; and the adapter: rx[2], offered"]),
+                         (10, [fetched, "not in the logthe driver: rx[1], finished, frame 0; and the adapter: rx[2], "
+                               "offered"])]:
+        browser.value(f"show({step})")
+        server.check(f"owners: step {step}", browser.value(read), ["0x10000the driver: rx[0], staged", *wanted])
 
 
 def scenario(server, browser):
@@ -267,6 +342,7 @@ def all_cases(server):
         hostile(server, browser)
         long(server, browser)
         large(server, browser)
+        owners(server, browser)
         scenario(server, browser)
     left = json.dumps(subprocess.run(["ps", "-o", "stat=", "-p", str(browser.process.pid)], capture_output=True,
                                      text=True, check=False).stdout.strip())
