@@ -1,6 +1,8 @@
 /* Explores the schedules of a student's driver.
  *
- * usage: lab [OPTION..]: the options of the explorer, such as --explore every and --json
+ * usage: lab [send | receive] [OPTION..]: the options of the explorer, such as --explore every and --json
+ *
+ * With `send` or `receive`, only this half is tested.
  */
 #include "e1000.h"
 #include <nic82540em_explore.h>
@@ -181,10 +183,8 @@ static void begin(void)
         x_write(writes[n][0], writes[n][1]);
 }
 
-static const char *lab(void *word)
+static void receive(void)
 {
-    (void)word;
-    begin();
     for (int round = 0; round < ROUNDS && !t->fault; round++) {
         arrive(), arrive();
         x_step(NIC_RXDATA), x_step(NIC_RXDONE);
@@ -193,13 +193,37 @@ static const char *lab(void *word)
     for (int n = 0; n < BURST && !t->fault; n++) /* more than the ring takes, so the others wait in the packet buffer */
         arrive();
     check_received();
+}
+
+static void send(void)
+{
     for (int n = 0; n < BURST && !t->fault; n++)
         send_one();
     check_sent();
+}
+
+static bool is(const char *word, const char *half)
+{
+    return !word || strcmp(word, half) == 0;
+}
+
+static const char *lab(void *half)
+{
+    begin();
+    if (is(half, "receive"))
+        receive();
+    if (is(half, "send"))
+        send();
     return t->fault;
 }
 
 int main(int count, char **words)
 {
-    return nic82540em_explore(count, words, lab, NULL);
+    char *half = count > 1 && words[1][0] != '-' ? words[1] : NULL;
+
+    if (half && !is(half, "receive") && !is(half, "send")) {
+        fprintf(stderr, "lab: %s is neither receive nor send\n", half);
+        return 2;
+    }
+    return nic82540em_explore(count, words, lab, half);
 }
