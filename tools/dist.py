@@ -21,6 +21,7 @@ import tempfile
 from typing import Callable, Optional
 
 sys.path.insert(0, os.path.dirname(os.path.abspath(__file__)))
+import shared_object  # noqa: E402
 import sources  # noqa: E402
 from amalgamating import contents  # noqa: E402
 from packing import archive  # noqa: E402
@@ -162,12 +163,14 @@ def build_library(files: dict[str, str], work: str, root: str, compiler: str, ar
     objects = [f"{os.path.splitext(path)[0]}.o" for path in code]
     library = [*(name for name in objects if name.startswith(sources.LIBRARY)), "heap.o"]
     made = {f"lib{sources.LIBRARY}.a": library,
-            f"lib{sources.SEARCH}.a": [name for name in objects if name.startswith(sources.SEARCH)]}
+            f"lib{sources.SEARCH}.a": [name for name in objects if sources.SEARCH in name]}
     for name, parts in made.items():
         run(archiver, "rcsD", name, *parts, cwd=work)
-    shared, header = f"lib{sources.LIBRARY}.so", f"{sources.LIBRARY}.h"
-    run(compiler, "-shared", f"-Wl,-soname,{shared}", "-o", shared, *library, cwd=work)
-    for path, folder in ((f"lib{sources.LIBRARY}.a", lib), (shared, lib), (header, os.path.join(root, "include"))):
+    header, version = f"{sources.LIBRARY}.h", versions(files)["version"]
+    run(compiler, "-shared", f"-Wl,-soname,{shared_object.soname(version)}", "-o", shared_object.NAME, *library,
+        cwd=work)
+    shared_object.install(os.path.join(work, shared_object.NAME), lib, version)
+    for path, folder in ((f"lib{sources.LIBRARY}.a", lib), (header, os.path.join(root, "include"))):
         target = os.path.join(folder, path)
         shutil.copyfile(os.path.join(work, path), f"{target}.new")
         os.replace(f"{target}.new", target)

@@ -239,7 +239,7 @@ def note_sources(rt: str, crates: dict[str, str], archive: str) -> None:
 
 def search(rt: str, target: str, tell: Callable[[str], None]) -> str:
     """Proves the explorer's search, unless an archive of it from these sources is kept. The search is a small crate,
-    which uses only the standard library. Returns the path of its archive.
+    which uses no other crate of the repository. Returns the path of its archive.
     """
     crates, archive = sources.crates(sources.SEARCH), kept(sources.SEARCH, target)
     if not is_kept(rt, crates, archive):

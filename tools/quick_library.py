@@ -25,14 +25,18 @@ EXPORT = re.compile(r'^pub extern "C" fn (\w+)\(\s*(.*?),?\s*\)', re.M | re.S)
 HANDLE = "&mut Nic"
 # A value for each type that a parameter has
 VALUES = {"Global": "rt.alloc()", HANDLE: "&mut nic", "&AdapterOptions": "&options", "u32": "0", "u64": "0",
-          "bool": "false", "&[u8]": "&bytes", "&mut [u8]": "&mut bytes", "&mut u32": "&mut word",
-          "&mut *const u8": "&mut place", "&mut KeptEvent": "&mut event"}
+          "bool": "false", "&[u8]": "&line", "&mut [u8]": "&mut bytes", "&mut u32": "&mut word",
+          "&mut *const u8": "&mut place", "&mut KeptEvent": "&mut event",
+          "&mut ServerHandle": "&mut server", "&mut ComingLine": "&mut coming"}
 MAIN = """
 fn main(rt: HostRuntime) {
     let mut nic = Nic { held: false, owner: owner::probed(rt.alloc()) };
     let mut other = Nic { held: false, owner: owner::probed(rt.alloc()) };
+    let mut server = ServerHandle { held: false, owner: server_owner::probed(rt.alloc()) };
+    let mut coming = ComingLine { kind: 0, round: 0, access: 0, address: 0, limit: 0 };
     let options = AdapterOptions { memory: 0, link: 0, receive_kilobytes: 0, address: [0; 6], has_image: false, missed: 0, image: [0; 64] };
     let mut event = KeptEvent { what: 0, kind: 0, value: 0, reason: 0, index: 0 };
+    let line = [0_u8; 1];
     let mut bytes = [0_u8; 1];
     let mut word = 0_u32;
     let mut place: *const u8 = std::ptr::null();
@@ -41,6 +45,8 @@ fn main(rt: HostRuntime) {
     owner::end(owner);
     let Nic { held: _, owner } = other;
     owner::end(owner);
+    let ServerHandle { held: _, owner } = server;
+    server_owner::end(owner);
 }
 """
 OWNER = """
@@ -96,7 +102,8 @@ def copy(crates: dict[str, str], top: str) -> tuple[str, list[str]]:
     lines = [line.replace(f"{NAME} staticlib:", f"{NAME}:") for line in crates.values()]
     write(os.path.join(top, "crates.txt"), "".join(lines))
     folder = os.path.join(top, "crates", NAME)
-    library, owner = (os.path.join(folder, "src", name) for name in ("lib.rt", "owner.rt"))
+    names = "lib.rt", "owner.rt", "server_owner.rt"
+    library, owner, server_owner = (os.path.join(folder, "src", name) for name in names)
     text = read(library)
     # the exports of all modules can be called by their names in the program's root
     found = exports("\n".join(read(path) for path in sorted(glob.glob(os.path.join(folder, "src", "*.rt")))))
@@ -104,6 +111,7 @@ def copy(crates: dict[str, str], top: str) -> tuple[str, list[str]]:
     write(os.path.join(folder, "src", "main.rt"), text + MAIN.replace("CALLS", "\n    ".join(calls)))
     os.remove(library)
     write(owner, read(owner) + OWNER)
+    write(server_owner, read(server_owner) + OWNER.replace("Owner", "ServerOwner"))
     return folder, list(found)
 
 

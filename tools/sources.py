@@ -12,7 +12,7 @@ CRATES = os.path.join(TOP, "crates")
 BUILD = os.path.join(TOP, ".build")
 PROGRAM = "nicbench"
 LIBRARY = "nic82540em"
-SEARCH = "schedule_search"
+SEARCH = "search"
 # The processor on which the toolchain runs
 HOST = "x86_64"
 # The source file that defines the version, as a constant.

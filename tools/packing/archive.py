@@ -77,9 +77,9 @@ def write_tar(tree, top, target, moment):
     os.replace(f"{target}.new", target)
 
 
-def write_deb(tree, control, target, moment):
-    """Writes a Debian package. `control` has its fields, except for the size. `moment` is the time of all files, in
-    seconds since 1970.
+def write_deb(tree, control, shlibs, target, moment):
+    """Writes a Debian package. `control` has its fields, except for the size, and `shlibs` its shared libraries.
+    `moment` is the time of all files, in seconds since 1970.
     """
     size = sum(-(-len(data) // 1024) for data in tree.files.values())
     with tempfile.TemporaryDirectory() as folder:
@@ -88,10 +88,11 @@ def write_deb(tree, control, target, moment):
         os.makedirs(os.path.join(inner, "DEBIAN"))
         with open(os.path.join(inner, "DEBIAN", "control"), "w") as file:
             file.write("".join(f"{name}: {value}\n" for name, value in {**control, "Installed-Size": size}.items()))
-        # the package has a shared library, which the loader finds by its cache
-        with open(os.path.join(inner, "DEBIAN", "triggers"), "w") as file:
-            file.write("activate-noawait ldconfig\n")
-        for path in ("DEBIAN/control", "DEBIAN/triggers", "DEBIAN", "."):
+        # the loader finds a shared library by its cache
+        for name, text in (("triggers", "activate-noawait ldconfig\n"), ("shlibs", shlibs)):
+            with open(os.path.join(inner, "DEBIAN", name), "w") as file:
+                file.write(text)
+        for path in ("DEBIAN/control", "DEBIAN/triggers", "DEBIAN/shlibs", "DEBIAN", "."):
             os.utime(os.path.join(inner, path), (moment, moment))
         made = os.path.join(folder, "package.deb")
         subprocess.run(["dpkg-deb", "--root-owner-group", "-Zgzip", "--build", inner, made], check=True,

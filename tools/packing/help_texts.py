@@ -6,6 +6,8 @@ import time
 
 # The finder of races, as the Debian package names it
 RACES = "nicbench-races"
+# How the help of the finder names the place of the program, and how its page does
+PLACE = ".build/nicbench of this repository", "nicbench of this release"
 HEADING = re.compile(r"^(Commands|Arguments|Options):$")
 # Words of the table of commands that have no help text of their own
 NO_TEXT = ("help",)
@@ -56,7 +58,7 @@ def texts(program, races):
     whole = Help("nicbench", shown(program))
     commands = [command for command in whole.commands if command not in NO_TEXT]
     parts = [Help(f"nicbench {command}", shown(program, command)) for command in commands]
-    return [whole, *parts, Help(RACES, shown(*races).replace("tools/races", RACES))]
+    return [whole, *parts, Help(RACES, shown(*races).replace(*PLACE).replace("tools/races", RACES))]
 
 
 # Man pages

@@ -52,6 +52,12 @@ def sessions(page):
             yield command, output
 
 
+def scripts(page):
+    """Yields the scripts of a page, each of which must succeed."""
+    for block in re.findall(r"^```sh\n(.*?)^```$", page, re.M | re.S):
+        yield f"set -e\n{block}", None
+
+
 def fits(output, shown):
     """Whether this is the output that a page shows. In the page, a line `...` stands for any lines."""
     lines = ["(?:.*\n)*?" if line == "...\n" else re.escape(line) for line in shown.splitlines(keepends=True)]
@@ -92,7 +98,7 @@ def play_archive(path, tell):
         with open(os.path.join(top, "README.md")) as file:
             page = file.read()
         root = Root(top)
-        return play(root, [("./nicbench --build", ""), *sessions(page), *LIBRARY], tell), root.is_root
+        return play(root, [("./nicbench --build", ""), *sessions(page), *scripts(page), *LIBRARY], tell), root.is_root
 
 
 def play_package(path, tell):

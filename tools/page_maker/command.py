@@ -6,6 +6,7 @@ import shutil
 import subprocess
 import sys
 
+import sources
 from .blocks import Blocks
 from .doc_pages import DocPages
 from .file_pages import FilePages
@@ -71,6 +72,7 @@ def arguments() -> argparse.Namespace:
     """Reads the arguments of the command line, and returns them."""
     parser = argparse.ArgumentParser(
         prog="tools/pages", description="Makes a site from the sources, or the generated parts of pages.")
+    parser.add_argument("--version", action="version", version=f"%(prog)s {sources.version()}")
     parser.add_argument("folder", nargs="?", default=DEFAULT, help="the site's folder, by default .build/pages")
     parser.add_argument("--kit", help="the toolchain's folder; by default that of `rt` on the PATH; empty for none")
     parser.add_argument("--tables", action="store_true", help="write the generated parts of committed pages instead")
