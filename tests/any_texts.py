@@ -12,7 +12,7 @@ from pcap_files import FILE_HEADER, packet, trace, written
 from scenario_reader import (CALLS, LONGEST_FRAME, MOST_BYTES, MOST_CAPTURED, OPEN, READ, SETUP, SHORTEST_FRAME, STEPS,
                              WORDS, Scenario,
                              TraceRead)
-from scenarios import ANY_WARNING, folder, refusal
+from scenarios import ANY_WARNING, folder, refusal, word_of
 
 FRAME = "0200000000020200000000010800"
 TRACE = "t.pcap"
@@ -104,12 +104,14 @@ def fed_fault(bench, path, given):
 
 def answer(bench, text, given=b"", options=()):
     """The status, the fault or None, the files in OUTDIR, and a list. Without a fault, the list contains the names of
-    the hosts. If a trace is refused, the list contains its path. After another fault, the list is empty.
+    the hosts. If a trace is refused, the list contains its path, and after E50 the wrong word. After another fault, the
+    list is empty.
     """
     scenario = Scenario(text)
     if scenario.fault:
         line, fault = scenario.fault
-        return 1, f"line {line}: {fault}", [], []
+        told = f"line {line}: {fault}"
+        return 1, told, [], [word] if (word := word_of(text, told)) else []
     for place, path in enumerate(scenario.traces):
         fault = fed_fault(bench, path, given if path not in scenario.traces[:place] else b"")
         if fault:

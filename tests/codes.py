@@ -32,12 +32,15 @@ def quoted(path: str) -> str:
 
 def failure(fault: str, path: Optional[str] = None) -> bytes:
     """What the program prints on standard error for a fault. If the fault is one of an input, and its path is given, a
-    second line names the path. The path of E68 or E73 is given after the name, as in `E68 Open: missing.pcap`.
+    second line names the path. If it is E50, and the wrong word is given as `path`, a second line names the word. The
+    path of E68 or E73 is given after the name, as in `E68 Open: missing.pcap`.
     """
     row, line, explanation = code_of(fault), fault, ""
     if row.code in OF_PATH and ": " in fault:
         line, named = fault.split(": ", 1)
         explanation = f"nicbench: {row.text.replace(OF_PATH[row.code], quoted(named))}\n"
+    elif path is not None and row.code == "E50":
+        explanation = f"nicbench: the word is {quoted(path)}\n"
     elif path is not None and row.code in OF_INPUT:
         explanation = f"nicbench: {row.text.replace('IN', quoted(path))}\n"
     return f"nicbench: {line}\n{explanation}".encode()
@@ -49,7 +52,7 @@ def second_lines(bench: Program) -> None:
     """
     bench.put("old.pcapng", b"\x0a\x0d\x0d\x0a" + bytes(100))
     told = (b"nicbench: E61 Magic\n"
-            b'nicbench: "old.pcapng" isn\'t a pcap file. Convert a pcapng file: editcap -F pcap "old.pcapng" OUT\n')
+            b'nicbench: "old.pcapng" isn\'t a pcap file. Convert a pcapng file: tools/to_pcap "old.pcapng" OUT\n')
     bench.ends("a second line: pass", ["pass", "old.pcapng", "out.pcap"], 1, b"", told)
     bench.ends("a second line: show", ["show", "./old.pcapng"], 1, b"", told.replace(b"old.", b"./old."))
     bench.ends("a second line: no file", ["pass", "none.pcap", "out.pcap"], 3, b"", b"nicbench: E68 Open\n"

@@ -1,19 +1,21 @@
 /* A library that is loaded before the C library. It makes calls of functions for input and output fail, or transfer one
    byte. Environment variables decide:
    - FAIL names a function. Of its calls, the one whose number, from 1, is in FAIL_AT fails. The error is EIO, or EINTR
-     if FAIL_INTERRUPTED is set.
+     if FAIL_INTERRUPTED is set. If FAIL_KILLS is set, the program is killed instead.
    - If FAIL_ON is set, all later calls of this function on the same file descriptor fail, too. Calls of open and rename
      count as calls on one descriptor.
    - If a call fails, the library creates a file with the name in FAILED.
    - If SHORT_READ is set, each read transfers at most one byte. If SHORT_WRITE is set, each write does.
    - END_AT is the number of a read, from 1. From this read on, all reads report the end of the file, as if the file
      had been cut after it was opened.
+   Files below /proc/self, from which the program reads the limits of its process, don't count: their calls never fail.
    The program calls no other functions for input and output than those below, close, lseek, isatty, unlink and fchmod:
    failing_devices.py checks this. */
 #define _GNU_SOURCE
 #include <dlfcn.h>
 #include <errno.h>
 #include <fcntl.h>
+#include <signal.h>
 #include <stdarg.h>
 #include <stdlib.h>
 #include <string.h>
@@ -46,6 +48,8 @@ static int fails(const char *function, int file)
     }
     if (sign)
         close(creat(sign, 0600));
+    if (getenv("FAIL_KILLS"))
+        raise(SIGKILL);
     errno = getenv("FAIL_INTERRUPTED") ? EINTR : EIO;
     return 1;
 }
@@ -56,12 +60,18 @@ static size_t most(const char *variable, size_t size)
     return size && getenv(variable) ? 1 : size;
 }
 
+/* The descriptor of the file below /proc/self that was opened last, or -1. The program closes it before it opens
+ * another file. */
+static int own = -1;
+
 ssize_t read(int file, void *bytes, size_t size)
 {
     static long reads;
     const char *end = getenv("END_AT");
 
     NEXT(ssize_t, int, void *, size_t);
+    if (file == own)
+        return next(file, bytes, size);
     if (end && ++reads >= atol(end))
         return 0;
     return fails(__func__, file) ? -1 : next(file, bytes, most("SHORT_READ", size));
@@ -82,6 +92,9 @@ int open(const char *path, int flags, ...)
     va_start(rest, flags);
     mode = flags & O_CREAT ? va_arg(rest, mode_t) : 0;
     va_end(rest);
+    own = -1;
+    if (!strncmp(path, "/proc/self/", 11))
+        return own = next(path, flags, mode);
     return fails(__func__, -1) ? -1 : next(path, flags, mode);
 }
 

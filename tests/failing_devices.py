@@ -3,6 +3,7 @@ they were opened.
 """
 
 import os
+import signal
 
 from codes import TABLE, failure
 from pcap_files import FILE_HEADER, packet, trace, written
@@ -172,6 +173,11 @@ def reads(failing, job):
     failing.bench.check(f"{job.name}: each interrupted read", len(results), number)
 
 
+def failed(answers):
+    """The answers of runs that end because a file failed, each with what it prints on standard error and its files."""
+    return [(3, b"", *answer) for answer in answers]
+
+
 def opens(failing, job):
     """For a command that writes no part, each call of open, statx and ftruncate fails in turn. The fault, and what each
     output contains then, are as computed here.
@@ -184,11 +190,12 @@ def opens(failing, job):
         created = [(job.refusal(OPEN + path), untouched[:place] + [old] * (count - place))
                    for place, path in enumerate(job.outputs)]
         begun = [(job.refusal(WRITE), texts[:place] + untouched[place:]) for place in range(count)]
-        for function, answers in [("open", wanted + created), ("statx", wanted + refused * job.folders + begun),
-                                  ("ftruncate", begun)]:
+        # SCENARIO, the trace that is fed and the files in OUTDIR are compared. One that can't be found equals no other.
+        compared = [job.whole] * (2 + count) * job.folders
+        for function, answers in [("open", failed(wanted + created)), ("ftruncate", failed(begun)),
+                                  ("statx", failed(wanted + refused * job.folders) + compared + failed(begun))]:
             got = [got for _, got in job.in_turn(failing, function, old)]
-            failing.bench.check(f"{job.with_files(old)}: each {function} fails", got,
-                                [(3, b"", *answer) for answer in answers])
+            failing.bench.check(f"{job.with_files(old)}: each {function} fails", got, answers)
 
 
 def parts(failing, job):
@@ -215,6 +222,27 @@ def parts(failing, job):
                                 [(3, b"", job.refusal(WRITE), job.whole[3])])
             failing.bench.check(f"{job.with_files(old)}: writes failed", len(got) > 1, True)
         failing.bench.check(f"{job.with_files(old)}: no part is left", failing.bench.get(job.part), None)
+        kills(failing, job, old)
+
+
+def kills(failing, job, old):
+    """A command that writes a part is killed at each write in turn, and at the rename. Before the rename, the output is
+    as it was, and the part contains a beginning of the new bytes.
+    """
+    text, lengths = job.whole[3][0], []
+    for function in ("write", "rename"):
+        for number, got in job.in_turn(failing, function, old, FAIL_KILLS="1"):
+            part = failing.bench.get(job.part)
+            failing.bench.remove(job.part)
+            if part is None:
+                failing.bench.check(f"{job.with_files(old)}: a kill at the line", got,
+                                    (-signal.SIGKILL, b"", b"", job.whole[3]))
+                continue
+            failing.bench.check(f"{job.with_files(old)}: a kill at {function} {number}", (got, text.startswith(part)),
+                                ((-signal.SIGKILL, b"", b"", [old]), True))
+            lengths.append(len(part))
+    failing.bench.check(f"{job.with_files(old)}: kills", (lengths[0], lengths[-1], lengths),
+                        (0, len(text), sorted(lengths)))
 
 
 def writes(failing, job):

@@ -10,7 +10,8 @@ Each script has these options besides its own words:
   -k TEXT   runs only the parts with TEXT in their names, [MODULE.]FUNCTION
   --times   prints each part with its number of comparisons and its processor seconds
 
-This module also adds the folders with the repository's modules to the path.
+With --help, a script only prints the text at its top. This module also adds the folders with the repository's modules
+to the path.
 """
 
 import os
@@ -263,6 +264,9 @@ def words_of_script() -> list[str]:
 def options() -> tuple[list[str], str, bool]:
     """The script's own words, the text that names of parts must contain, and whether times are printed."""
     words, pattern = sys.argv[1:], ""
+    if words in (["--help"], ["-h"]):
+        print(getattr(sys.modules["__main__"], "__doc__", ""))
+        sys.exit(0)
     if "-k" in words[:-1]:
         at = words.index("-k")
         pattern = words[at + 1]

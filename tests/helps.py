@@ -28,7 +28,7 @@ Run it from the top of the repository:
   frames 1 skipped 0 cut no
 
 Exit status: 0 success, 1 a trace, a scenario, an image, a schedule or an answer is invalid, or
-drive ended too early, 2 usage error, help or version, 3 a file failed, 4 out of memory. If the
+drive ended too early, 2 usage error, --help or --version, 3 a file failed, 4 out of memory. If the
 status is 1, 3 or 4, nicbench prints 'nicbench: CODE NAME' on standard error, or 'nicbench: line N:
 CODE NAME' if a line of a scenario is invalid. Lines with an explanation may follow, such as the
 path of the file. IN is any input: of pass and drive, the TRACE of show, and the SCENARIO of run
@@ -43,8 +43,8 @@ E57, E66, E67 and E68 of serve: nicbench serve --help
   E59 Answer    A line isn't the answer to a request of drive. Check the program that answers
   E60 Header    IN has fewer than 24 bytes, so it isn't a trace. Name another file, or check the
                 program that writes into the pipe
-  E61 Magic     IN isn't a pcap file. Convert a pcapng file: editcap -F pcap IN OUT
-  E62 Version   IN isn't a pcap file of version 2.4. Convert it: editcap -F pcap IN OUT
+  E61 Magic     IN isn't a pcap file. Convert a pcapng file: tools/to_pcap IN OUT
+  E62 Version   IN isn't a pcap file of version 2.4. Convert it: tools/to_pcap IN OUT
   E63 LinkType  IN isn't a trace of Ethernet frames. Capture it at an Ethernet interface
   E64 Record    A packet of IN claims more than 262,144 bytes, so IN is damaged. Capture it again
   E65 Memory    Out of memory while IN was read. Free some, or split IN:
@@ -60,8 +60,8 @@ E57, E66, E67 and E68 of serve: nicbench serve --help
   E71 Unmet     Deviations of the schedule of serve weren't met. Standard error lists them
   E72 Pipe      Standard input or a pipe has more than 1 GiB. Copy it to a file first, and name the
                 file
-  E73 SameFile  FILE is also SCENARIO, a trace that the run feeds, or a file that it writes in
-                OUTDIR. Name another for --events
+  E73 SameFile  FILE is also SCENARIO, a trace that the run feeds, or another file that it writes.
+                Name another for --events, or another OUTDIR
 """
 
 PASS_HELP = b"""Send the frames of a trace through a receive filter and a ring
@@ -216,8 +216,9 @@ receiver is off, as in a reset, the outcome is 'off'. The answers:
   CODE NAME         the call was refused, or its socket's queue is empty, such as E22 RingFull:
                     docs/ERRORS.md
 
-FILE is written after the files in OUTDIR. If it is -, the lines of hosts go to standard error. FILE
-can't be a file that run also reads, or writes in OUTDIR. This draws the events as a chart:
+FILE is written after the files in OUTDIR. If it is -, the lines of hosts go to standard error. Each
+file that run writes, FILE or in OUTDIR, must be a file of its own, which run doesn't read. This
+draws the events as a chart:
 
   $ tools/run_chart SCENARIO FILE
 
@@ -268,8 +269,9 @@ the frames and the packets that were captured in part, and says whether TRACE en
   2 1518 02:00:00:00:00:02 02:00:00:00:00:01 0800
   frames 3 skipped 0 cut no
 
-If show fails, it prints 'nicbench: CODE NAME' on standard error. What each code means, and what to
-do: nicbench --help
+Without TRACE, show reads standard input if that is a pipe, as in 'tools/to_pcap IN | ./nicbench
+show'. If show fails, it prints 'nicbench: CODE NAME' on standard error. What each code means, and
+what to do: nicbench --help
 """
 
 SERVE_HELP = b"""Serve an adapter and its memory to a driver, one request per line

@@ -7,6 +7,7 @@ import time
 
 from codes import failure
 from pcap_files import FILE_HEADER, packet, trace, written
+import command_words
 import scenarios
 
 
@@ -30,7 +31,7 @@ def cases():
         ("a scenario", ["run", None, "outdir"], scenarios.EXAMPLE, 0, scenarios.EXAMPLE_LINES, b"", None),
         ("no scenario", ["run", None, "outdir"], b"", 1, b"", scenarios.refusal("E42 Hosts"), None),
         ("a line", ["run", None, "outdir"], b"#\n" * 100000 + b"fly\n", 1, b"",
-         scenarios.refusal("line 100001: E50 Word"), None),
+         scenarios.refusal("line 100001: E50 Word", "fly"), None),
     ]
 
 
@@ -72,7 +73,25 @@ def all_cases(bench):
         bench.fails(f"{device} as a trace", device, fault, 3)
         bench.ends(f"{device} as a trace to show", ["show", device], 3, b"", failure(fault))
         bench.ends(f"{device} as a scenario", ["run", device, "outdir"], 3, b"", scenarios.refusal(fault))
+    without_a_name(bench)
     ends_of_input(bench)
+
+
+def without_a_name(bench):
+    """Without a trace's name, `show` reads standard input if it is a pipe. Otherwise the name is missing."""
+    whole, missing = (0, b"0 0 short\nframes 1 skipped 0 cut no\n", b""), command_words.NO_TRACE
+    bench.put("good.pcap", trace(packet(b"")))
+    os.mkfifo(bench.path("named"))
+    for line, wanted in [
+        ("cat good.pcap | {} show", whole), ("cat good.pcap >named & {} show <named", whole),
+        ("printf x | {} show", (1, b"", failure("E60 Header", "-"))), ("{} show <good.pcap", (2, b"", missing)),
+        ("{} show </dev/null", (2, b"", missing)), ("{} show <&-", (2, b"", missing)),
+        ("{} show <.", (2, b"", missing)),
+        ("cat good.pcap | {} show good.pcap", whole), ("cat good.pcap | {} show -", whole),
+        ("cat good.pcap | {} show --", (2, b"", missing)), ("cat good.pcap | {} pass out.pcap", (2, b"", None)),
+    ]:
+        got = bench.shell(line.format(bench.program))
+        bench.check(f"no name: {line}", (*got[:2], got[2] if wanted[2] is not None else None), wanted)
 
 
 def ends_of_input(bench):

@@ -21,6 +21,7 @@ from harness import TOOLS, TOP, Program, test_all, text_of, words_of_script
 import adapter
 import large_driver
 import library_examples
+import library_lines
 import library_served
 import nic82540em
 import sweep
@@ -81,7 +82,8 @@ def names(library):
     library.check("the header's calls", set(re.findall(r"^(?!static).*?(nic82540em_\w+)\(struct", header, re.M)),
                   exported)
     library.check("the calls of the crate in Rust", set(re.findall(r"fn (nic82540em_\w+)\(", rust)), exported)
-    library.check("the calls in Python", {f"nic82540em_{name}" for name in nic82540em.CALLS}, exported)
+    calls_in_python = *nic82540em.CALLS, *nic82540em.SERVER_CALLS
+    library.check("the calls in Python", {f"nic82540em_{name}" for name in calls_in_python}, exported)
     outcomes = re.findall(r"^    NIC_(\w+),?", header[header.index("NIC_NOTHING"):header.index("/* The fates")], re.M)
     library.check("the outcomes in Python", [name.upper() for name in nic82540em.OUTCOMES], ["NOTHING", *outcomes])
     finder = runpy.run_path(os.path.join(TOP, "finder", "names.py"))
@@ -267,9 +269,9 @@ def is_built(library, words):
     return ran.returncode == 0
 
 
-PARTS = (*library_served.PARTS, events_that_wait, image_and_missed, steps_by_schedule, state_without_accesses,
-         steps_that_are_possible, copies, states_by_contents, steps_by_ticks, frames_that_wait, drivers,
-         *library_examples.PARTS)
+PARTS = (*library_served.PARTS, *library_lines.PARTS, events_that_wait, image_and_missed, steps_by_schedule,
+         state_without_accesses, steps_that_are_possible, copies, states_by_contents, steps_by_ticks, frames_that_wait,
+         drivers, *library_examples.PARTS)
 
 
 def main():

@@ -16,16 +16,18 @@ SANITIZERS = "-fsanitize=address,undefined"
 # faults
 FUZZ_RUNS = 20000
 RACES = (("LATE", "was never received"), ("PREFETCH", "has other bytes"))
-# The bindings by the ending of their examples. Each has the path, the line before the methods, and the patterns of a
-# method, a call and a comment.
+# The bindings by the ending of their examples. Each has the files with the line before the methods, and the patterns of
+# a method, a call and a comment.
 BINDINGS = {
-    ".py": (("python", "nic82540em", "__init__.py"), "class Nic:\n", r"^    def (\w+)\((.*?)(?=^    def |^\S)",
+    ".py": (((("python", "nic82540em", "__init__.py"), "class Nic:\n"),
+             (("python", "nic82540em", "server.py"), "class Server:\n")), r"^    def (\w+)\((.*?)(?=^    def |^\S|\Z)",
             r'self\.call\("(\w+)"', r'""".*?"""|#[^\n]*'),
-    ".rs": (("rust", "src", "lib.rs"), "impl Nic {\n", r"^    (?:pub )?fn (\w+)\((.*?)^    \}",
-            r"nic82540em_(\w+)\(", r"//[^\n]*"),
+    ".rs": (((("rust", "src", "lib.rs"), "impl Nic {\n"), (("rust", "src", "server.rs"), "impl Server {\n")),
+            r"^    (?:pub )?fn (\w+)\((.*?)^    \}", r"nic82540em_(\w+)\(", r"//[^\n]*"),
 }
 # How an example calls the methods that it doesn't name
-UNNAMED = {"__init__": r"\bNic\(", "free": r"\bwith Nic\(", "drop": r"\bNic::new\(", "new": r"\bNic::new\("}
+UNNAMED = {"__init__": r"\b(Nic|Server)\(", "free": r"\bwith Nic\(", "close": r"\bwith Server\(",
+           "drop": r"\b(Nic|Server)::new\(", "new": r"\b(Nic|Server)::new\(", "name": r"\.(name|register_name)\("}
 
 
 def examples(ending):
@@ -46,14 +48,16 @@ def code_of(ending, comment):
 def calls_in_examples(library):
     """In each language, each call of the library is made by an example."""
     header, code = text_of("bindings", "c", "nic82540em.h"), code_of(".c", r"/\*.*?\*/")
-    calls = set(re.findall(r"\bnic82540em_(\w+)\(struct nic82540em \*nic", header))
+    calls = set(re.findall(r"\bnic82540em_(\w+)\(struct nic82540em(?:_server)? \*", header))
     missing = [name for name in sorted(calls) if f"nic82540em_{name}(" not in code]
     library.check("calls without an example *.c", missing, [])
     calls.remove("print")  # an inline function of the header
-    for ending, (path, before, method, call, comment) in BINDINGS.items():
-        code, methods = code_of(ending, comment), text_of("bindings", *path).partition(before)[2]
-        made = {one for name, body in re.findall(method, methods, re.S | re.M)
-                if re.search(UNNAMED.get(name, rf"\.{name}\("), code) for one in re.findall(call, body)}
+    for ending, (places, method, call, comment) in BINDINGS.items():
+        code = code_of(ending, comment)
+        bodies = [found for path, before in places
+                  for found in re.findall(method, text_of("bindings", *path).partition(before)[2], re.S | re.M)]
+        made = {one for name, body in bodies if re.search(UNNAMED.get(name, rf"\.{name}\("), code)
+                for one in re.findall(call, body)}
         library.check(f"calls without an example *{ending}", sorted(calls - made), [])
 
 
@@ -242,10 +246,47 @@ def by_pip(library):
     code = re.search(r"```python\n(.*?)```", text_of("docs", "LIBRARY.md"), re.S)[1]
     installed = ["env", "-u", "NIC82540EM_LIB", f"PYTHONPATH={target}", sys.executable, "-B", "-c", code]
     library.prints("the package: runs", installed, "True 0x80\n")
+    searched_in_python(library, target)
     library.check("the package has types", os.path.exists(os.path.join(target, "nic82540em", "py.typed")), True)
     ran = install(library.folder)
     is_told = "libnic82540em.so isn't in" in ran.stderr
     library.check("pip without the library", (ran.returncode != 0, is_told), (True, True))
+
+
+def searched_in_python(library, package):
+    """`python3 -m nic82540em` runs a function as a test, with the adapter in process or by pipes. What the function
+    prints isn't a request.
+    """
+    env = {**os.environ, "PYTHONPATH": package, "PYTHONDONTWRITEBYTECODE": "1", "PYTHONUNBUFFERED": "1"}
+    env.pop("NIC82540EM_LIB", None)
+    text = text_of(EXAMPLES, "searched.py").replace("    queue(adapter)\n", "    print('queues')\n    queue(adapter)\n")
+    library.put("searched.py", text.encode())
+    library.put("race.txt", b"0.7 txtake before read ICR\n")
+    words = [sys.executable, "-m", "nic82540em"]
+    fails = "the queue is empty before the test has waited\n"
+
+    def here(*more):
+        ran = subprocess.run([*words, *more], cwd=library.folder, env=env, capture_output=True, text=True)
+        return ran.returncode, ran.stderr[-300:]
+
+    def by_pipes(test, *options):
+        served = subprocess.Popen([library.program, "serve", *options], cwd=library.folder, stdin=subprocess.PIPE,
+                                  stdout=subprocess.PIPE, stderr=subprocess.DEVNULL)
+        ran = subprocess.run([*words, f"searched.py:{test}"], cwd=library.folder, env=env, stdin=served.stdout,
+                             stdout=served.stdin, stderr=subprocess.PIPE, text=True, timeout=60)
+        served.communicate()
+        return ran.returncode, ran.stderr
+
+    library.check("a function: in process", here("--here", "searched.py:test_wrong"), (0, ""))
+    library.check("a function: in process, with a schedule",
+                  here("--here", "searched.py:test_wrong", "--schedule", "race.txt"), (1, fails))
+    for test, options, wanted in (("test_right", [], (0, "")), ("test_wrong", [], (0, "")),
+                                  ("test_wrong", ["--schedule", "race.txt"], (1, fails))):
+        status, said = by_pipes(test, *options)
+        library.check(f"a function: by pipes, {test} {options}", (status, said.replace("queues\n", "")), wanted)
+    for more in ([], ["searched.py"], ["searched.py:none"], ["none.py:test"], ["--here"]):
+        status, said = here(*more)
+        library.check(f"a function: the words {more}", (status, said != ""), (2, True))
 
 
 def refused_memory(library):
@@ -260,6 +301,19 @@ def refused_memory(library):
                            "copy: refused at each of 11 allocations\noffer: refused at each of 2 allocations\n"
                            "play: 5 of 9 allocations end it\n"
                            "no block is left\n")
+
+
+def stack(library):
+    """In library_stack.c, a thread makes all calls. They need less than 32 KiB of its stack."""
+    if library.is_there("cc", "the stack"):
+        target = library.path("stack")
+        source = os.path.join(TOP, "tests", "library_stack.c")
+        flags = ["-std=gnu11", *WARNINGS, "-pthread"]
+        if library.compiles("the stack", "cc", *flags, "-o", target, source, *library.flags):
+            ran = subprocess.run([target], capture_output=True, text=True, timeout=60)
+            size = int(ran.stdout or 0)
+            library.check("the stack: runs", (ran.returncode, ran.stderr), (0, ""))
+            library.check(f"the stack: {size} bytes are fewer than 32 KiB", 4096 < size < 32 << 10, True)
 
 
 def examples_in_other_languages(library):
@@ -287,5 +341,5 @@ def examples_in_other_languages(library):
                     library.prints(f"{name}.rs: runs", [target], output_of(name))
 
 
-PARTS = (calls_in_examples, refused_memory, examples_in_c, fuzzers, examples_in_other_languages, by_pkg_config,
+PARTS = (calls_in_examples, refused_memory, stack, examples_in_c, fuzzers, examples_in_other_languages, by_pkg_config,
          by_cmake, explorer_by_cmake, by_pip)

@@ -70,7 +70,11 @@ def gate(tree):
             os.remove(tree.path(f"gate/{file}-{name}"))
     done = subprocess.run([tree.path("gate/test"), "--slow"], capture_output=True, text=True, check=False)
     tree.check("gate: other words", (done.returncode, done.stdout, done.stderr),
-               (2, "", "usage: ./test [--quick | --dist]\n"))
+               (2, "", "usage: ./test [--quick | --dist | --help]\n"))
+    for word in ("--help", "-h"):
+        status, said, errors = tree.execute(tree.path("gate/test"), word)
+        tree.check(f"./test {word}", (status, said.startswith("usage: ./test ["), "exit status is 1" in said, errors),
+                   (0, True, True, ""))
 
 
 def gate_ended(tree):

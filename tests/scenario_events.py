@@ -2,6 +2,7 @@
 pages of tools/run_chart.
 """
 
+import json
 import os
 import re
 import subprocess
@@ -257,7 +258,9 @@ def where_frames_are(bench):
     left = [stage for (_, stage), frames in network.frames.items() if frames]
     bench.check("page: nothing is left to be received", [stage for stage in left if stage in STAGES[3:6]], [])
     status, out, errors = chart(bench, "s.scenario", "events.txt", "--html", "--from", "10", "--to", "30")
-    numbers = [int(number) for number in re.findall(r"<i>(\d+)", out)]
+    data = re.search('<script type="application/json" id=data>(.*?)</script>', out, re.S)
+    steps = json.loads(data[1])["runs"][0]["steps"]
+    numbers = [int(step["place"].split(".")[0]) for step in steps if step.get("place")]
     bench.check("page: a part", (status, errors, min(numbers, default=0), max(numbers, default=0)), (0, "", 10, 30))
     bench.check("page: not with a picture", chart(bench, "--html", "--svg", "s.scenario", "events.txt")[0], 2)
 

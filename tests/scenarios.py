@@ -73,8 +73,20 @@ def plays(bench, name, text, lines, files, options=(), warned=b""):
 
 
 def refusal(fault, path=None):
-    """What a run that wrote nothing prints on standard error; `path` is that of an input that is refused."""
+    """What a run that wrote nothing prints on standard error; `path` is that of an input that is refused, or the wrong
+    word of E50.
+    """
     return failure(fault, path) + UNCHANGED
+
+
+def word_of(text, fault):
+    """The first word of the line of a text that a fault E50 names; None for another fault."""
+    if not fault.endswith("E50 Word"):
+        return None
+    number, lines = int(fault.split()[1].rstrip(":")), text.split(b"\n")
+    line = lines[number - 1]
+    line = line[:-1] if number < len(lines) and line.endswith(b"\r") else line
+    return re.split("[ \t]+", line.decode().strip(" \t"))[0]
 
 
 def refused(bench, name, text, fault, status=1, files=(), options=(), given=None):
@@ -82,7 +94,8 @@ def refused(bench, name, text, fault, status=1, files=(), options=(), given=None
     path = folder(bench)
     bench.put("s.scenario", text)
     for before in [b"", b"old"] if files else [b""]:
-        bench.ends(f"run: {name}", ["run", *options, "s.scenario", "outdir"], status, b"", refusal(fault, given))
+        bench.ends(f"run: {name}", ["run", *options, "s.scenario", "outdir"], status, b"",
+                   refusal(fault, given or word_of(text, fault)))
         bench.check(f"run: {name}: what is written", held(path), {file: before for file in files})
         for file in files:
             bench.put(f"outdir/{file}", b"old")
@@ -170,8 +183,10 @@ def feeds(bench):
     path = folder(bench)
     bench.put("outdir/b.0.pcap", trace(*map(packet, frames)))
     bench.put("s.scenario", TO_SOCKET + b"feed a outdir/b.0.pcap\n")
-    bench.ends("feed: a file of OUTDIR", ["run", "s.scenario", "outdir"], 0, lines)
-    bench.check("feed: a file of OUTDIR: what is written", held(path), wanted)
+    before = held(path)
+    bench.ends("feed: a file of OUTDIR", ["run", "s.scenario", "outdir"], 3, b"",
+               refusal("E73 SameFile: outdir/b.0.pcap"))
+    bench.check("feed: a file of OUTDIR: nothing is written", held(path), before)
     faults(bench)
 
 
@@ -245,6 +260,12 @@ def lines(bench):
         ("no UTF-8 in a word that isn't known", b"fly \x80\n", "line 1: E56 Text"),
         ("a CR that ends no line", EXAMPLE[:-1] + b"\r", "line 11: E52 Value"),
         ("two faults", b"fly\nhost\n", "line 1: E50 Word"),
+        ("a CR at the end of the text", b"fly\r", "line 1: E50 Word"),
+        ("a CR LF", b"#\r\n\t sned\r\n", "line 2: E50 Word"),
+        ("two CR", b"\n\nfly\r\r\nfly", "line 3: E50 Word"),
+        ("a word that isn't printable", "\u001b[1m\"\\\u0085\u00e9\u0301 a\n".encode(), "line 1: E50 Word"),
+        ("a word of a whole line", b"x" * 8192 + b"\n", "line 1: E50 Word"),
+        ("a text that isn't UTF-8 behind the word", b"fly\n\xff", "line 1: E50 Word"),
     ]:
         refused(bench, name, text, fault)
 
@@ -287,7 +308,7 @@ def places(bench):
     bench.put("bad.scenario", b"fly\n")
     bench.put("feed.scenario", TO_SOCKET + b"feed a missing.pcap\n")
     bench.put("plan.scenario", b"host b 02:00:00:00:00:02 w\nsocket b all\n")
-    for name, words, fault, status in [
+    for name, words, fault, status, *word in [
         ("no scenario", ["missing.scenario", "outdir"], "E68 Open: missing.scenario", 3),
         ("a folder as scenario", ["outdir", "outdir"], "E66 Read", 3),
         ("no OUTDIR", ["s.scenario", "missing"], "E68 Open: missing", 3),
@@ -295,11 +316,11 @@ def places(bench):
         ("a file as OUTDIR", ["s.scenario", "s.scenario"], "E68 Open: s.scenario", 3),
         ("a file as OUTDIR, and no file to make", ["none.scenario", "s.scenario"], "E68 Open: s.scenario", 3),
         ("an empty word as OUTDIR", ["none.scenario", ""], "E68 Open: ", 3),
-        ("a line before OUTDIR", ["bad.scenario", "missing"], "line 1: E50 Word", 1),
+        ("a line before OUTDIR", ["bad.scenario", "missing"], "line 1: E50 Word", 1, "fly"),
         ("a trace before OUTDIR", ["feed.scenario", "s.scenario"], "E68 Open: missing.pcap", 3),
         ("OUTDIR before a plan", ["plan.scenario", "missing"], "E68 Open: missing", 3),
     ]:
-        bench.ends(f"run: {name}", ["run", *words], status, b"", refusal(fault, words[0]))
+        bench.ends(f"run: {name}", ["run", *words], status, b"", refusal(fault, *(word or words[:1])))
     bench.check("run: OUTDIR stays empty", os.listdir(bench.path("outdir")), [])
     bench.check("run: OUTDIR isn't made", os.path.exists(bench.path("missing")), False)
     for name in ["x/y", "../b", "/b"]:
