@@ -169,8 +169,9 @@ void xi_say_seen(void)
     char receive[96], transmit[96];
     const char *handler = seen.in_send ? "; the handler ran inside a send" : "; the handler never ran inside a send";
 
-    xi_say("%s; %s; %s frame was missed%s\n", ring(receive, sizeof receive, false),
-           ring(transmit, sizeof transmit, true), seen.missed ? "a" : "no", seen.handled ? handler : "");
+    if (!xi_has_command) /* of a command, the rings aren't looked at */
+        xi_say("%s; %s; %s frame was missed%s\n", ring(receive, sizeof receive, false),
+               ring(transmit, sizeof transmit, true), seen.missed ? "a" : "no", seen.handled ? handler : "");
     say_never();
     if (xi_untold())
         xi_say("the host's memory was changed without an access, first %s: by the test, or by inline assembly\n",

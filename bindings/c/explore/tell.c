@@ -26,6 +26,14 @@ static double seconds_since(const struct timespec *then)
     return (double)(now.tv_sec - then->tv_sec) + (double)(now.tv_nsec - then->tv_nsec) / 1e9;
 }
 
+/* Seconds that have passed since some moment: of this process, or, if a command is run, of a clock */
+double xi_spent(void)
+{
+    static struct timespec moment;
+
+    return xi_has_command ? seconds_since(&moment) : (double)clock() / CLOCKS_PER_SEC;
+}
+
 /* Signals, and the time of a run */
 
 /* The first signal ends the search. A signal that comes more than a second after the first one ends the program. */
@@ -141,7 +149,7 @@ void xi_open(bool shares)
 _Noreturn void xi_die(const char *why)
 {
     xi_pause();
-    fprintf(xi_errors ? xi_errors : stderr, "explore: %s\n", why);
+    fprintf(xi_errors ? xi_errors : stderr, "%s: %s\n", xi_program, why);
     exit(NOT_RUN);
 }
 
@@ -149,8 +157,8 @@ _Noreturn void xi_die(const char *why)
 _Noreturn void xi_die_of(const char *what, const char *name)
 {
     xi_pause();
-    fprintf(xi_errors ? xi_errors : stderr, "explore: %s%s%s: it can't be saved with the state of the test\n", what,
-            name && *name ? ": " : "", name ? name : "");
+    fprintf(xi_errors ? xi_errors : stderr, "%s: %s%s%s: it can't be saved with the state of the test\n", xi_program,
+            what, name && *name ? ": " : "", name ? name : "");
     exit(NOT_RUN);
 }
 
