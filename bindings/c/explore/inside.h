@@ -201,7 +201,7 @@ extern volatile unsigned xi_entries; /* how often the test was entered */
 char *xi_stack(void **top); /* the end of the stack of the test; stores its top, if `top` isn't null */
 void xi_set_stack(void *top);
 
-/* actions.c: what is done at a place, and the history of a run */
+/* places.c: what is done at a place, and the history of a run */
 void xi_next_place(void);
 unsigned xi_play(uint32_t kind);
 unsigned xi_possible(void);
@@ -378,6 +378,8 @@ void xi_see_fate(uint32_t fate);
 void xi_see_handler(bool in_send);
 void xi_see_place(void);
 void xi_see_deviation(void);
+void xi_each_kind(void (*with)(const struct place *place, bool is_later, bool has_deviation));
+void xi_add_kind(const struct place *place, bool is_later, bool has_deviation);
 void xi_say_seen(void);
 void xi_print_seen(void);
 
@@ -436,6 +438,8 @@ void xi_begin_time(void);
 void xi_end_time(void);
 bool xi_is_late(void);
 int xi_stopped(void);
+void xi_stop(int number);
+extern bool xi_is_cut; /* whether a signal has ended the last run, which then shows nothing */
 const char *xi_why(void);
 
 /* signals.c: names of signals, and those that the test sends to itself */

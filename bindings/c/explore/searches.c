@@ -349,6 +349,8 @@ static int draw(void)
     for (uint64_t n = 0; n < xi_given.runs && !xi_stopped(); n++) {
         uint64_t seed = xi_given.seed + n;
         take_drawn(seed);
+        if (xi_is_cut)
+            break;
         xi_result.runs++, deviations += xi_book->did;
         if (xi_given.check && !is_repeated(seed))
             return differs(seed);

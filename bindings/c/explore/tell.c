@@ -16,6 +16,7 @@ static volatile unsigned run_seconds; /* of this run */
 static bool is_late; /* whether a run has taken too long */
 static char late[64];
 FILE *xi_out, *xi_errors;
+bool xi_is_cut;
 static bool has_progress; /* whether a line of progress is on the terminal */
 
 static double seconds_since(const struct timespec *then)
@@ -120,6 +121,12 @@ bool xi_is_late(void)
 int xi_stopped(void)
 {
     return stopped;
+}
+
+/* Asks for an end, as this signal would. */
+void xi_stop(int number)
+{
+    stopped = number;
 }
 
 /* Why a search has ended before its end */

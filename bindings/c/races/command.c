@@ -16,7 +16,7 @@
 #include <time.h>
 #include <unistd.h>
 
-enum { IN, OUT, ERRORS, PIPES, NO_FILE = -1, SLICE = 200, PATIENCE = 2, LAST_ERRORS = 4096, NOT_STARTED = 127 };
+enum { IN, OUT, ERRORS, PIPES, NO_FILE = -1, SLICE = 200, LAST_ERRORS = 4096, NOT_STARTED = 127 };
 static struct {
     pid_t pid; /* 0: there is none */
     int to, from, errors, handle;
@@ -28,6 +28,7 @@ static struct {
 static char in[MOST_LINE + 4096], out[1 << 20], errors[2 * LAST_ERRORS];
 static size_t in_from, in_end, out_end, errors_end;
 static double deadline;
+static int stopped_before; /* the signal that has come before this run, or 0 */
 static const char *fault;
 
 static double now(void)
@@ -38,20 +39,21 @@ static double now(void)
     return (double)time.tv_sec + (double)time.tv_nsec / 1e9;
 }
 
-/* Whether the time of the run has ended: then notes its fault. */
+/* Whether the time of the run has ended, or a signal has come meanwhile. Notes the fault, or that the run is cut. */
 static bool is_over(void)
 {
-    static double stopped;
-
-    if (fault)
+    if (xi_stopped() != stopped_before)
+        xi_is_cut = true;
+    if (fault || xi_is_cut)
         return true;
-    if (xi_stopped() && !stopped)
-        stopped = now();
-    if (xi_stopped() && now() > stopped + PATIENCE)
-        fault = xr_fault("it doesn't end before SIG%s", xi_signal(xi_stopped()));
-    else if (now() > deadline)
+    if (now() > deadline)
         fault = xr_fault("it doesn't end in %u second%s", xi_given.seconds, xi_given.seconds == 1 ? "" : "s");
     return fault;
+}
+
+static bool is_ended_early(void)
+{
+    return fault || xi_is_cut;
 }
 
 /* Start */
@@ -128,7 +130,7 @@ static void start(void)
 /* Begins a run of COMMAND: by a new process if `is_new` is true, or if the last one doesn't wait for it. */
 void xr_begin_command(bool is_new)
 {
-    fault = NULL, deadline = now() + xi_given.seconds;
+    fault = NULL, xi_is_cut = false, stopped_before = xi_stopped(), deadline = now() + xi_given.seconds;
     if (one.pid && one.may_go_on && !is_new) {
         one.may_go_on = false, errors_end = 0;
         xr_tell("OK\n", 3);
@@ -233,18 +235,15 @@ void xr_close_command(void)
 /* Ends the run. Returns what is wrong with it, or NULL. */
 const char *xr_end_command(void)
 {
-    double late = deadline;
-
     if (one.may_go_on) {
         read_errors();
         return fault = xr_status_fault(one.status, errors, errors_end);
     }
     close_one(&one.to);
-    while (!fault && !one.has_ended && (note_end(WNOHANG), !one.has_ended) && waits(false, false))
+    while (!is_ended_early() && !one.has_ended && (note_end(WNOHANG), !one.has_ended) && waits(false, false))
         ;
-    (void)late;
     read_errors();
-    if (!fault)
+    if (!is_ended_early())
         fault = xr_status_fault(one.status, errors, errors_end);
     xr_close_command();
     return fault;
@@ -328,10 +327,10 @@ bool xr_next_line(char **line, size_t *size)
             return false;
         }
         write_out();
-        if (fault || one.is_deaf || !reads_more())
+        if (is_ended_early() || one.is_deaf || !reads_more())
             break;
     }
-    if (fault || one.is_deaf || (!end && in_end == in_from))
+    if (is_ended_early() || one.is_deaf || (!end && in_end == in_from))
         return false;
     *line = in + in_from, *size = end ? (size_t)(end - *line) : in_end - in_from;
     in_from += *size + (end != NULL);

@@ -92,6 +92,10 @@ int xr_play_first(void)
             return unequal(&first, &then);
     }
     free(lines), lines = NULL;
+    if (xi_stopped()) {
+        xi_say("%s: nothing was searched yet\n", xi_why());
+        return xi_finish("ended", 128 + xi_stopped());
+    }
     if (!first.fails)
         return -1;
     xi_result.found.fails = true, memcpy(xi_result.found.fault, first.fault, sizeof first.fault);

@@ -1,9 +1,7 @@
 /* The words of tools/races. Those of the search are read as the explorer's are. */
 #include "races.h"
-#include <errno.h>
 #include <stdlib.h>
 #include <string.h>
-#include <unistd.h>
 
 static const char help[] =
     "Finds races between a driver and the modelled adapter.\n"
@@ -76,14 +74,6 @@ static void refuse_gone(const char *word)
             refuse(word, gone[n].instead);
 }
 
-/* The number of processors that this process may use */
-static unsigned processors(void)
-{
-    long count = sysconf(_SC_NPROCESSORS_ONLN);
-
-    return count < 1 ? 1 : count > MOST_JOBS ? MOST_JOBS : (unsigned)count;
-}
-
 static void take_jobs(const char *value)
 {
     char *end = NULL;
@@ -133,7 +123,7 @@ void xr_take_words(int count, char **words)
     others[0] = words[0];
     while (end < count && strcmp(words[end], "--"))
         end++;
-    xr_given.jobs = processors();
+    xr_given.jobs = xr_processors(NULL);
     for (int n = 1; n < end; n++)
         if (!takes(words, &n, end))
             others[other++] = words[n];

@@ -23,6 +23,7 @@ int main(int count, char **words)
     xi_listen();
     xr_prepare_command();
     xi_html_begin();
+    xr_deal_drawn();
     status = xi_given.replay ? xi_replay_given() : searched();
     xr_close_command();
     return xi_html_end(status);

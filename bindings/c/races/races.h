@@ -61,7 +61,16 @@ int xr_play_first(void);
 void xr_keep_line(const char *line, size_t size);
 
 /* jobs.c: runs in several processes */
-void xr_begin_jobs(void);
-void xr_end_jobs(void);
+unsigned xr_processors(int *into);
+unsigned xr_begin_jobs(uint64_t most, void (*work)(unsigned job, unsigned all));
+void xr_end_jobs(bool are_done);
+unsigned xr_jobs(void);
+void xr_send(const void *bytes, size_t size);
+bool xr_receive(unsigned job, void *into, size_t size);
+void xr_send_path(const struct deviation *path, unsigned length);
+bool xr_receive_path(unsigned job, struct deviation *path, unsigned length);
+
+/* drawn.c: drawn runs of jobs */
+void xr_deal_drawn(void);
 
 #endif
