@@ -23,10 +23,15 @@ static const char *name_here(void)
 /* Begins a run: with a new adapter, and with a new process of COMMAND if `is_new` is true. */
 void xi_begin(bool is_new)
 {
+    if (line && !is_new && xr_resets())
+        while (B->event != ENDED) /* a run that was left: its process plays the next one */
+            xi_to_test();
+    xr_begin_share();
     memset(&book, 0, offsetof(struct book, path));
     S->fault = NULL, S->choice = 0, S->offered = 0, S->offers.count = S->arrived.count = 0;
     line = NULL, xi_name_here = name_here;
     xi_device->reset();
+    xr_begin_told();
     xr_begin_command(is_new);
 }
 
@@ -60,12 +65,13 @@ static void answer(void)
     size_t size;
 
     xi_answer_bytes((const uint8_t *)line, line_size);
+    xr_add_told(line, line_size), xr_add_told("\n", 1);
     if (xr_is_shown && xr_answers_shown(line, line_size))
         return;
     if (answers_here())
         return;
     size = xr_answer(line, line_size);
-    xi_answer_bytes((const uint8_t *)xr_told(), size);
+    xi_answer_bytes((const uint8_t *)xr_told(), size), xr_add_told(xr_told(), size);
     if (xr_is_shown)
         xr_show_answer(line, line_size, xr_told(), size);
     else
