@@ -13,6 +13,7 @@
 #include <unistd.h>
 
 enum { FIRST_BYTES = 64, MOST_ZEROS = 4096, LAST_BYTES = 2 };
+#define HANDLER "the handler "
 #define NO_PAGE (~0u) /* in place of the number of deviations. Other processes have the pipe, so it has no end */
 /* A deviation on its way to another process. The text of a place in a schedule from a file is in the memory of one. */
 struct sent {
@@ -30,6 +31,8 @@ static const char *actor(void)
 {
     return is_handlers ? "handler" : "driver";
 }
+
+static void print_string(FILE *file, const char *text);
 
 static void begin(const char *who, const char *action, size_t size)
 {
@@ -49,6 +52,12 @@ static void print_data(const uint8_t *bytes, size_t count)
     for (size_t n = 0; n < count; n++)
         fprintf(xi_html_steps, "%02x", bytes[n]);
     fputc('"', xi_html_steps);
+}
+
+static void print_outcome(const char *outcome)
+{
+    fprintf(xi_html_steps, ", \"outcome\": ");
+    print_string(xi_html_steps, outcome);
 }
 
 static void end(const char *outcome, bool is_deviation)
@@ -151,13 +160,14 @@ void xi_html_request(const char *result)
     add_line();
 }
 
-void xi_html_handler(const char *what, bool is_deviation)
+/* A mark, such as that the handler cuts in: until the next one of the handler, what follows is the handler's. */
+void xi_html_mark(const char *mark, bool is_deviation)
 {
-    char mark[32];
+    bool is_of_handler = !strncmp(mark, HANDLER, strlen(HANDLER));
 
-    snprintf(mark, sizeof mark, "the handler %s", what);
-    is_handlers = strcmp(what, "cuts in") == 0;
-    begin("handler", "mark", 4), end(mark, is_deviation);
+    if (is_of_handler)
+        is_handlers = !strcmp(mark + strlen(HANDLER), "cuts in");
+    begin(is_of_handler ? "handler" : actor(), "mark", 4), print_outcome(mark), end(NULL, is_deviation);
 }
 
 void xi_html_step(const char *action, const char *result, bool is_deviation)
@@ -288,7 +298,7 @@ static _Noreturn void write_page(int from)
 
 static _Noreturn void refuse(void)
 {
-    fprintf(stderr, "explore: --html: %s: %s\n", xi_given.html, strerror(errno));
+    fprintf(stderr, "%s: --html: %s: %s\n", xi_program, xi_given.html, strerror(errno));
     exit(USAGE);
 }
 
@@ -344,7 +354,7 @@ int xi_html_end(int status)
     close(to_writer);
     waitpid(writer, &ended, 0);
     if (!is_written || ended) {
-        fprintf(xi_errors, "explore: --html: %s: the page can't be written\n", xi_given.html);
+        fprintf(xi_errors, "%s: --html: %s: the page can't be written\n", xi_program, xi_given.html);
         return NOT_RUN;
     }
     if (is_needed)

@@ -201,23 +201,29 @@ extern volatile unsigned xi_entries; /* how often the test was entered */
 char *xi_stack(void **top); /* the end of the stack of the test; stores its top, if `top` isn't null */
 void xi_set_stack(void *top);
 
-/* bus.c: the adapter and the places of a run */
-void xi_set_test(const char *(*test)(void *), void *argument);
-const char *xi_test(void);
-void xi_begin(bool is_new);
+/* places.c: what is done at a place, and the history of a run */
 void xi_next_place(void);
 unsigned xi_play(uint32_t kind);
 unsigned xi_possible(void);
 struct digest xi_adapter(void);
+void xi_change(void);
+bool xi_deviate(int action);
+bool xi_choose(unsigned choice);
+void xi_tick(void);
+void xi_add_to_history(uint64_t value);
+uint64_t xi_answer(uint64_t value);
+void xi_answer_bytes(const uint8_t *at, size_t count);
+struct outcome xi_outcome(void);
+
+/* bus.c: the adapter and the places of a run */
+void xi_set_test(const char *(*test)(void *), void *argument);
+const char *xi_test(void);
+void xi_begin(bool is_new);
 void xi_leave(enum event event, uint64_t address);
 void xi_back(void);
 void xi_need(bool is_right, const char *fault);
 _Noreturn void xi_end(const char *fault);
-bool xi_deviate(int action);
-bool xi_choose(unsigned choice);
-void xi_tick(void);
-uint64_t xi_answer(uint64_t value);
-struct outcome xi_outcome(void);
+const char *xi_deliver_offered(void);
 
 /* interrupts.c: where the handler cuts in */
 void xi_at_place(enum event event, uint64_t address);
@@ -233,6 +239,7 @@ extern const struct x_device *xi_device, xi_nic;
 extern unsigned xi_clocks, xi_clock[CLOCKS]; /* the kinds of the steps that are taken by default: their number, and each */
 extern int xi_actors[ACTIONS];               /* of actions; -1: its place among others of the same place matters */
 extern uint32_t xi_outcome_of_step;          /* of the adapter's last step */
+const char *xi_nic_register(uint32_t offset);
 bool xi_is_nic(void);
 void xi_know_device(void);
 bool xi_is_clock(int action);
@@ -273,6 +280,7 @@ static inline void xi_clean(void)
 
 /* names.c: the text of schedules */
 extern const char *xi_actions[ACTIONS];
+extern const char *(*xi_name_here)(void); /* of the place at which the run is, if something else knows its name */
 struct place xi_place(void);
 uint32_t xi_first_of_table(uint32_t offset);
 void xi_name(char *into, size_t room, const struct place *place);
@@ -288,7 +296,7 @@ void xi_log_value(uint32_t value);
 void xi_log_bytes(const void *bytes, size_t count);
 void xi_log_touch(uint64_t address);
 void xi_log_request(const char *result);
-void xi_log_handler(const char *what, bool is_deviation);
+void xi_log_mark(const char *mark, bool is_deviation);
 void xi_log_step(const char *action, const char *result, bool is_deviation);
 
 /* html.c: the page of a run, with --html. log.c calls the functions of the steps while there is a file for them. */
@@ -297,7 +305,7 @@ void xi_html_value(uint32_t value);
 void xi_html_bytes(const void *bytes, size_t count);
 void xi_html_touch(const uint8_t *bytes, size_t count);
 void xi_html_request(const char *result);
-void xi_html_handler(const char *what, bool is_deviation);
+void xi_html_mark(const char *mark, bool is_deviation);
 void xi_html_step(const char *action, const char *result, bool is_deviation);
 void xi_html_begin(void);
 extern const char xi_page_head[], xi_page_middle[], xi_page_end[]; /* page.c */
@@ -319,6 +327,8 @@ struct found { /* what a search has shown */
 extern uint64_t xi_repeated; /* runs of searches that were played again from nothing */
 extern uint64_t xi_played_on; /* runs that were played on from known states */
 void xi_explore(int depth, bool with_holds, bool finds_all, size_t most_states, struct found *found);
+extern bool (*xi_has_key)(void); /* whether the state here can be compared, though it can't be saved; or NULL */
+extern int (*xi_share)(uint8_t *actions, int count); /* what keeps the options of this process, or NULL */
 void xi_keep(struct found *found);
 unsigned xi_below(unsigned end);
 extern struct pct {
@@ -337,6 +347,8 @@ void xi_forget_first_round(void);
 
 /* words.c: what the words of the command ask for */
 enum { DRAWN = -2 };
+extern const char *xi_program, *xi_help; /* its name in messages */
+extern bool xi_has_command; /* whether the test is a command, whose requests come through a pipe */
 extern struct given {
     int depth; /* of an exploration, EVERY or DRAWN */
     uint64_t runs, seed, states;
@@ -345,6 +357,7 @@ extern struct given {
     const char *replay, *out, *serve, *html;
 } xi_given;
 extern char xi_command[1024]; /* the words of the test */
+extern char xi_options_line[512]; /* the options of the adapter that a command has, as words */
 void xi_take_words(int count, char **words);
 
 /* pct.c: draws by priorities */
@@ -367,6 +380,8 @@ void xi_see_fate(uint32_t fate);
 void xi_see_handler(bool in_send);
 void xi_see_place(void);
 void xi_see_deviation(void);
+void xi_each_kind(void (*with)(const struct place *place, bool is_later, bool has_deviation));
+void xi_add_kind(const struct place *place, bool is_later, bool has_deviation);
 void xi_say_seen(void);
 void xi_print_seen(void);
 
@@ -378,12 +393,24 @@ void xi_go_host(bool asks);
 const char *xi_untold(void);
 
 /* kinds.c: schedules and seeds that fail */
+extern void (*xi_takes_failed)(const struct deviation *path, unsigned count, const char *fault); /* elsewhere, or NULL */
 void xi_add_failed(const struct deviation *path, unsigned count, const char *fault);
 void xi_add_seed(uint64_t seed, const char *fault);
 void xi_without_slot(char *name);
 void xi_print_kinds(void);
 void xi_print_failed(void);
 uint64_t xi_failed(void);
+
+/* searches.c: the searches of a command */
+extern bool xi_is_first_short; /* whether schedules of one deviation are tried first, though no state is saved */
+extern void (*xi_takes_drawn)(uint64_t seed); /* what plays the runs of seeds elsewhere, or NULL */
+extern void (*xi_explores_by)(int depth, bool with_holds, bool finds_all, size_t most_states, struct found *found);
+int xi_by_depth(void);
+int xi_by_draws(void);
+int xi_report(int least);
+int xi_replay_given(void);
+int xi_unsaved(const char *run);
+int xi_compare_some(void);
 
 /* result.c: the result of the command */
 enum { NONE = -1 };
@@ -406,6 +433,7 @@ _Noreturn void xi_die_of(const char *what, const char *name);
 void xi_say(const char *format, ...) __attribute__((format(printf, 1, 2)));
 void xi_progress(const char *format, ...) __attribute__((format(printf, 1, 2)));
 bool xi_is_time(void);
+double xi_spent(void);
 const char *xi_number(double number);
 void xi_print_string(FILE *file, const char *text);
 void xi_print_lines(FILE *file, const struct deviation *path, unsigned count);
@@ -415,6 +443,8 @@ void xi_begin_time(void);
 void xi_end_time(void);
 bool xi_is_late(void);
 int xi_stopped(void);
+void xi_stop(int number);
+extern bool xi_is_cut; /* whether a signal has ended the last run, which then shows nothing */
 const char *xi_why(void);
 
 /* signals.c: names of signals, and those that the test sends to itself */

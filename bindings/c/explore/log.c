@@ -101,14 +101,11 @@ static APART void log_request(const char *result)
     log_line();
 }
 
-/* Adds a line: the handler cuts in, returns, or is late. */
-static APART void log_handler(const char *what, bool is_deviation)
+/* Adds a line that is neither an access nor a step. */
+static APART void log_mark(const char *mark, bool is_deviation)
 {
-    char mark[32];
-
     if (xi_html_steps)
-        xi_html_handler(what, is_deviation);
-    snprintf(mark, sizeof mark, "the handler %s", what);
+        xi_html_mark(mark, is_deviation);
     if (xi_is_piped)
         xi_pipe_mark(mark);
     else if (xi_given.log)
@@ -150,10 +147,10 @@ void xi_log_request(const char *result)
         log_request(result);
 }
 
-void xi_log_handler(const char *what, bool is_deviation)
+void xi_log_mark(const char *mark, bool is_deviation)
 {
     if (is_on() || xi_is_piped)
-        log_handler(what, is_deviation);
+        log_mark(mark, is_deviation);
 }
 
 void xi_log_step(const char *action, const char *result, bool is_deviation)
