@@ -432,6 +432,7 @@ static int replay(void)
     bool is_unreached;
 
     found->count = (unsigned)xi_read_schedule(xi_given.replay, found->path);
+    xi_steps_open(found->path, found->count);
     xi_replay(found->path, found->count, true, &lack);
     is_unreached = !lack.text[0] && lack.unreached < found->count;
     if (lack.text[0])
