@@ -5,3 +5,7 @@ source_state() (
     cd "$1" || exit
     exec find crates.txt crates \( -name out -o -name must-fail \) -prune -o -type f -printf '%p %i %s %T@ %C@\n'
 )
+# races_state TOP: the same, also for the sources of tools/races that aren't in a crate
+races_state() (
+    source_state "$1" && cd "$1" && exec find bindings/c tools/build_races.py -type f -printf '%p %i %s %T@ %C@\n'
+)

@@ -14,8 +14,6 @@
 
 static const char *(*the_test)(void *);
 static void *the_argument;
-static bool is_deviation; /* whether a deviation is played now */
-bool xi_is_history_needless, xi_has_touched, xi_has_offered, xi_has_chosen;
 
 void xi_set_test(const char *(*test)(void *), void *argument)
 {
@@ -34,16 +32,6 @@ __attribute__((noinline)) void xi_back(void)
     xi_at_test(true);
 }
 
-/* Adds a value to the history of the run. It isn't inlined: so no register keeps a hash, which would be on the saved
- * stack and make states different. */
-__attribute__((noinline)) static void add_to_history(uint64_t value)
-{
-    if (xi_is_history_needless)
-        return;
-    B->history = (B->history ^ value) * 0x9E3779B97F4A7C15;
-    B->history ^= B->history >> 31;
-}
-
 /* Leaves the test at a place. When control comes back, the test's call is made: the explorer works on its stack. */
 __attribute__((noinline)) void xi_leave(enum event event, uint64_t address)
 {
@@ -52,7 +40,7 @@ __attribute__((noinline)) void xi_leave(enum event event, uint64_t address)
     B->event = event, B->address = address;
     if (xi_watches_host)
         xi_stop_host();
-    add_to_history(1 + event + (address << 8));
+    xi_add_to_history(1 + event + (address << 8));
     errno = 0;
     xi_clean();
     xi_to_explorer();
@@ -96,165 +84,23 @@ void xi_begin(bool is_new)
     xi_start(run_test);
 }
 
-/* Runs the test to its next place, or to its end. */
-void xi_next_place(void)
-{
-    xi_to_test();
-    if (++B->places > MOST_PLACES && B->event != ENDED)
-        S->fault = "no end after 100,000 accesses", B->event = ENDED;
-    if (B->event >= ARRIVE && B->event != ENDED)
-        B->round++, B->access = 0, B->sub = 0;
-    else if (B->event >= LINE && B->event != ENDED)
-        B->sub++;
-    else
-        B->access++, B->sub = 0;
-    B->last = 0, B->stage = B->event < LINE ? 0 : xi_clocks;
-    xi_see_place();
-}
-
-/* Adds a value that the run writes or reads to its history. Returns the value. */
-uint64_t xi_answer(uint64_t value)
-{
-    add_to_history(value);
-    return value;
-}
-
-__attribute__((noinline)) static void answer_bytes(const uint8_t *at, size_t count)
-{
-    uint64_t hash = count, word;
-
-    if (xi_is_history_needless)
-        return;
-    for (; count >= 8; count -= 8, at += 8) {
-        memcpy(&word, at, 8);
-        hash = (hash ^ word) * 0x9E3779B97F4A7C15u, hash ^= hash >> 29;
-    }
-    while (count--)
-        hash = (hash ^ *at++) * 1099511628211u;
-    add_to_history(hash);
-}
-
-/* Returns what a run that has ended has shown: whether it fails, why, and its history. */
-struct outcome xi_outcome(void)
-{
-    struct outcome outcome = { .fails = S->fault };
-
-    if (S->fault) {
-        snprintf(outcome.fault, sizeof outcome.fault, "%s", S->fault);
-        answer_bytes((const uint8_t *)S->fault, strlen(S->fault));
-    }
-    outcome.history = B->history;
-    return outcome;
-}
-
-/* What the adapter does */
-
-/* Notes that the adapter may have changed. */
-static void change(void)
-{
-    B->knows_possible = B->knows_digest = false;
-}
-
-unsigned xi_possible(void)
-{
-    if (!B->knows_possible)
-        B->possible = xi_device->possible(), B->knows_possible = true;
-    return B->possible;
-}
-
-/* The digest of the adapter without the host's memory */
-struct digest xi_adapter(void)
-{
-    if (!B->knows_digest) {
-        B->digest = xi_device_digest();
-        B->knows_digest = true;
-    }
-    return B->digest;
-}
-
-unsigned xi_play(uint32_t kind)
-{
-    bool is_possible = xi_is_nic() || xi_possible() >> kind & 1;
-    const char *did = is_possible ? xi_device->step(kind) : NULL;
-
-    if (!did)
-        return NIC_NOTHING;
-    change(), B->moves += !xi_is_clock((int)kind);
-    xi_log_step(xi_actions[kind], did, is_deviation);
-    return xi_is_nic() ? xi_outcome_of_step : 1;
-}
-
 static uint32_t deliver(const void *frame, size_t count)
 {
     uint32_t fate = xi_device->arrive(frame, count);
 
-    change();
+    xi_change();
     xi_add_frame(&S->arrived, frame, count, fate);
     xi_see_fate(fate);
     return fate;
 }
 
-static void deliver_offered(void)
+/* The oldest offered frame arrives. Returns its fate. */
+const char *xi_deliver_offered(void)
 {
     uint8_t frame[LONGEST];
     size_t count = xi_take_frame(&S->offers, S->offered++, frame, sizeof frame);
 
-    B->moves++;
-    xi_log_step("arrive", xi_fates[deliver(frame, count)], is_deviation);
-}
-
-/* Plays the default steps of this place that weren't played yet. */
-void xi_tick(void)
-{
-    unsigned possible = B->stage < xi_clocks ? xi_possible() : 0;
-
-    for (; B->stage < xi_clocks; B->stage++)
-        if (possible >> xi_clock[B->stage] & 1)
-            xi_play(xi_clock[B->stage]);
-}
-
-/* Answers the x_choose at which the run is. Returns whether there is such an answer. */
-bool xi_choose(unsigned choice)
-{
-    S->choice = choice;
-    return xi_deviate(CHOICE);
-}
-
-/* Plays a deviation at this place. Returns whether it did something. */
-bool xi_deviate(int action)
-{
-    struct deviation *one = &B->path[B->path_count];
-    bool did = true;
-
-    if (B->path_count == MOST_PATH)
-        xi_die("a run has more than 1,024 deviations");
-    *one = (struct deviation){ B->round, B->access, B->sub, action, S->choice, xi_place() };
-    is_deviation = true;
-    if (action == ARRIVAL) {
-        did = S->offered < S->offers.count;
-        if (did)
-            deliver_offered();
-    } else if (action >= PAIR && action < HOLD) {
-        const struct x_pair *pair = &xi_device->pairs[action - PAIR];
-        did = xi_play(pair->first) != NIC_NOTHING;
-        did |= xi_play(pair->second) != NIC_NOTHING;
-    } else if (action == IRQ)
-        did = S->cuts_in = xi_may_cut_in();
-    else if (action == LATE_IRQ)
-        did = S->is_put_off = B->event == CALL;
-    else if (action == HOLD_STEP)
-        did = S->is_held = B->event == STEP;
-    else if (action == CHOICE)
-        did = B->event == CHOOSE && S->choice && S->choice < B->address;
-    else if (action < X_KINDS)
-        did = xi_play((uint32_t)action) != NIC_NOTHING;
-    is_deviation = false;
-    B->path_count += did, B->did += did, B->last = 1 + action;
-    if (did && (action == HOLD_STEP || (action >= HOLD && action < HOLD + CLOCKS)))
-        xi_log_hold(xi_actions[action]);
-    if (did)
-        xi_see_deviation();
-    return did;
+    return xi_fates[deliver(frame, count)];
 }
 
 /* The calls of the test */
@@ -274,7 +120,7 @@ uint32_t x_read(uint32_t offset)
         return xi_pipe_read(offset);
     xi_at_place(READ, offset);
     value = (uint32_t)xi_answer(xi_device->read(offset));
-    change();
+    xi_change();
     xi_log_value(value);
     xi_cut_in();
     return value;
@@ -289,7 +135,7 @@ void x_write(uint32_t offset, uint32_t value)
     xi_at_place(WRITE, offset);
     xi_device->write(offset, value);
     xi_answer(value);
-    change();
+    xi_change();
     xi_log_value(value);
     xi_cut_in();
 }
@@ -305,7 +151,7 @@ void x_load(uint64_t address, void *into, size_t count)
     xi_dead_read(address, count);
     if (!xi_load(address, into, count))
         xi_end("x_load: the driver loads bytes outside of memory");
-    answer_bytes(into, count);
+    xi_answer_bytes(into, count);
     xi_log_bytes(into, count);
     xi_cut_in();
 }
@@ -322,7 +168,7 @@ void x_store(uint64_t address, const void *bytes, size_t count)
         xi_end("x_store: the driver stores bytes outside of memory");
     xi_dead_written(address, count);
     B->is_sending |= S->handler && xi_place().ring == 2;
-    answer_bytes(bytes, count);
+    xi_answer_bytes(bytes, count);
     xi_log_bytes(bytes, count);
     xi_cut_in();
 }
@@ -429,8 +275,10 @@ uint64_t x_settle(void)
     xi_log_request(NULL);
     do {
         did = false;
-        while (S->offered < S->offers.count)
-            deliver_offered(), count++, did = true, xi_clean(), pause_settling();
+        while (S->offered < S->offers.count) {
+            B->moves++, xi_log_step("arrive", xi_deliver_offered(), false);
+            count++, did = true, xi_clean(), pause_settling();
+        }
         for (unsigned kind = 0; kind < xi_device->kinds; kind++) {
             uint32_t outcome = xi_play(kind);
             bool is_done = outcome != NIC_NOTHING && outcome != NIC_WIREFULL;

@@ -10,7 +10,6 @@
 #include <stdio.h>
 #include <stdlib.h>
 #include <string.h>
-#include <sys/prctl.h>
 #include <sys/wait.h>
 #include <unistd.h>
 
@@ -45,23 +44,6 @@ static bool write_all(int to, const void *bytes, size_t size)
         if ((count = write(to, bytes, size)) <= 0)
             return false;
     return true;
-}
-
-/* Forks a process that doesn't outlive this one. */
-pid_t xi_forked(void)
-{
-    pid_t parent = getpid(), child;
-
-    fflush(NULL);
-    child = fork();
-    if (child < 0)
-        xi_die("a process can't be started");
-    if (child == 0) {
-        prctl(PR_SET_PDEATHSIG, SIGKILL);
-        if (getppid() != parent)
-            _exit(NOT_RUN);
-    }
-    return child;
 }
 
 static struct outcome play(const struct request *request, const struct deviation *path)

@@ -113,7 +113,7 @@ static _Noreturn void write_page(int from)
 
 static _Noreturn void refuse(void)
 {
-    fprintf(stderr, "explore: --html: %s: %s\n", xi_given.html, strerror(errno));
+    fprintf(stderr, "%s: --html: %s: %s\n", xi_program, xi_given.html, strerror(errno));
     exit(USAGE);
 }
 
@@ -169,7 +169,7 @@ int xi_html_end(int status)
     close(to_writer);
     waitpid(writer, &ended, 0);
     if (!is_written || ended) {
-        fprintf(xi_errors, "explore: --html: %s: the page can't be written\n", xi_given.html);
+        fprintf(xi_errors, "%s: --html: %s: the page can't be written\n", xi_program, xi_given.html);
         return NOT_RUN;
     }
     if (is_needed)

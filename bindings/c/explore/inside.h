@@ -201,23 +201,29 @@ extern volatile unsigned xi_entries; /* how often the test was entered */
 char *xi_stack(void **top); /* the end of the stack of the test; stores its top, if `top` isn't null */
 void xi_set_stack(void *top);
 
-/* bus.c: the adapter and the places of a run */
-void xi_set_test(const char *(*test)(void *), void *argument);
-const char *xi_test(void);
-void xi_begin(bool is_new);
+/* places.c: what is done at a place, and the history of a run */
 void xi_next_place(void);
 unsigned xi_play(uint32_t kind);
 unsigned xi_possible(void);
 struct digest xi_adapter(void);
+void xi_change(void);
+bool xi_deviate(int action);
+bool xi_choose(unsigned choice);
+void xi_tick(void);
+void xi_add_to_history(uint64_t value);
+uint64_t xi_answer(uint64_t value);
+void xi_answer_bytes(const uint8_t *at, size_t count);
+struct outcome xi_outcome(void);
+
+/* bus.c: the adapter and the places of a run */
+void xi_set_test(const char *(*test)(void *), void *argument);
+const char *xi_test(void);
+void xi_begin(bool is_new);
 void xi_leave(enum event event, uint64_t address);
 void xi_back(void);
 void xi_need(bool is_right, const char *fault);
 _Noreturn void xi_end(const char *fault);
-bool xi_deviate(int action);
-bool xi_choose(unsigned choice);
-void xi_tick(void);
-uint64_t xi_answer(uint64_t value);
-struct outcome xi_outcome(void);
+const char *xi_deliver_offered(void);
 
 /* interrupts.c: where the handler cuts in */
 void xi_at_place(enum event event, uint64_t address);
@@ -233,6 +239,7 @@ extern const struct x_device *xi_device, xi_nic;
 extern unsigned xi_clocks, xi_clock[CLOCKS]; /* the kinds of the steps that are taken by default: their number, and each */
 extern int xi_actors[ACTIONS];               /* of actions; -1: its place among others of the same place matters */
 extern uint32_t xi_outcome_of_step;          /* of the adapter's last step */
+const char *xi_nic_register(uint32_t offset);
 bool xi_is_nic(void);
 void xi_know_device(void);
 bool xi_is_clock(int action);
@@ -273,6 +280,7 @@ static inline void xi_clean(void)
 
 /* names.c: the text of schedules */
 extern const char *xi_actions[ACTIONS];
+extern const char *(*xi_name_here)(void); /* of the place at which the run is, if something else knows its name */
 struct place xi_place(void);
 uint32_t xi_first_of_table(uint32_t offset);
 void xi_name(char *into, size_t room, const struct place *place);
@@ -288,9 +296,10 @@ void xi_log_value(uint32_t value);
 void xi_log_bytes(const void *bytes, size_t count);
 void xi_log_touch(uint64_t address);
 void xi_log_request(const char *result);
-void xi_log_handler(const char *what, bool is_deviation);
+void xi_log_mark(const char *mark, bool is_deviation);
 void xi_log_step(const char *action, const char *result, bool is_deviation);
 void xi_log_hold(const char *action);
+void xi_log_fault(const char *slot, const char *reason);
 
 /* steps.c: the steps of a run in JSON. log.c calls these functions while xi_steps isn't NULL. */
 extern FILE *xi_steps;
@@ -299,9 +308,10 @@ void xi_step_value(uint32_t value);
 void xi_step_bytes(const void *bytes, size_t count);
 void xi_step_touch(const uint8_t *bytes, size_t count);
 void xi_step_request(const char *result);
-void xi_step_handler(const char *what, bool is_deviation);
+void xi_step_mark(const char *mark, bool is_deviation);
 void xi_step_taken(const char *action, const char *result, bool is_deviation);
 void xi_step_hold(const char *action);
+void xi_step_fault(const char *slot, const char *reason);
 void xi_steps_begin(FILE *file, const struct deviation *path, unsigned count);
 void xi_steps_open(const struct deviation *path, unsigned count);
 
@@ -344,6 +354,8 @@ void xi_forget_first_round(void);
 
 /* words.c: what the words of the command ask for */
 enum { DRAWN = -2 };
+extern const char *xi_program, *xi_help; /* its name in messages */
+extern bool xi_has_command; /* whether the test is a command, whose requests come through a pipe */
 extern struct given {
     int depth; /* of an exploration, EVERY or DRAWN */
     uint64_t runs, seed, states;
@@ -352,6 +364,7 @@ extern struct given {
     const char *replay, *out, *serve, *html;
 } xi_given;
 extern char xi_command[1024]; /* the words of the test */
+extern char xi_options_line[512]; /* the options of the adapter that a command has, as words */
 void xi_take_words(int count, char **words);
 
 /* pct.c: draws by priorities */
@@ -374,6 +387,8 @@ void xi_see_fate(uint32_t fate);
 void xi_see_handler(bool in_send);
 void xi_see_place(void);
 void xi_see_deviation(void);
+void xi_each_kind(void (*with)(const struct place *place, bool is_later, bool has_deviation));
+void xi_add_kind(const struct place *place, bool is_later, bool has_deviation);
 void xi_say_seen(void);
 void xi_print_seen(void);
 
@@ -391,6 +406,15 @@ void xi_without_slot(char *name);
 void xi_print_kinds(void);
 void xi_print_failed(void);
 uint64_t xi_failed(void);
+
+/* searches.c: the searches of a command */
+extern void (*xi_takes_drawn)(uint64_t seed); /* what plays the runs of seeds elsewhere, or NULL */
+int xi_by_depth(void);
+int xi_by_draws(void);
+int xi_report(int least);
+int xi_replay_given(void);
+int xi_unsaved(const char *run);
+int xi_compare_some(void);
 
 /* result.c: the result of the command */
 enum { NONE = -1 };
@@ -413,6 +437,7 @@ _Noreturn void xi_die_of(const char *what, const char *name);
 void xi_say(const char *format, ...) __attribute__((format(printf, 1, 2)));
 void xi_progress(const char *format, ...) __attribute__((format(printf, 1, 2)));
 bool xi_is_time(void);
+double xi_spent(void);
 const char *xi_number(double number);
 void xi_print_string(FILE *file, const char *text);
 void xi_print_lines(FILE *file, const struct deviation *path, unsigned count);
@@ -422,6 +447,8 @@ void xi_begin_time(void);
 void xi_end_time(void);
 bool xi_is_late(void);
 int xi_stopped(void);
+void xi_stop(int number);
+extern bool xi_is_cut; /* whether a signal has ended the last run, which then shows nothing */
 const char *xi_why(void);
 
 /* signals.c: names of signals, and those that the test sends to itself */

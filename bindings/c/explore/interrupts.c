@@ -12,11 +12,11 @@ static void call_handler(bool is_deviation)
     S->takes_none = true, S->is_late = false, S->has_cut_in = S->is_settling;
     xi_handler_begins();
     xi_see_handler(B->is_sending);
-    xi_log_handler("cuts in", is_deviation);
+    xi_log_mark("the handler cuts in", is_deviation);
     xi_back();
     S->handler();
     xi_pause();
-    xi_log_handler("returns", false);
+    xi_log_mark("the handler returns", false);
     S->takes_none = false;
     xi_handler_ends();
 }
@@ -51,7 +51,7 @@ static bool is_put_off(void)
     xi_leave(CALL, 0);
     S->is_late = S->is_put_off, S->is_put_off = false;
     if (S->is_late)
-        xi_log_handler("is late", true);
+        xi_log_mark("the handler is late", true);
     return S->is_late;
 }
 

@@ -107,14 +107,11 @@ static APART void log_request(const char *result)
     log_line();
 }
 
-/* Adds a line: the handler cuts in, returns, or is late. */
-static APART void log_handler(const char *what, bool is_deviation)
+/* Adds a line that is neither an access nor a step. */
+static APART void log_mark(const char *mark, bool is_deviation)
 {
-    char mark[32];
-
     if (xi_steps)
-        xi_step_handler(what, is_deviation);
-    snprintf(mark, sizeof mark, "the handler %s", what);
+        xi_step_mark(mark, is_deviation);
     if (xi_is_piped)
         xi_pipe_mark(mark);
     else if (is_text())
@@ -141,6 +138,15 @@ static APART void log_hold(const char *action)
         printf("*        %s\n", action);
 }
 
+/* Adds a line: why the last step was a fault. */
+static APART void log_fault(const char *slot, const char *reason)
+{
+    if (xi_steps)
+        xi_step_fault(slot, reason);
+    if (is_text())
+        printf("         fault %s: %s\n", slot, reason);
+}
+
 void xi_log_value(uint32_t value)
 {
     if (is_on())
@@ -165,10 +171,10 @@ void xi_log_request(const char *result)
         log_request(result);
 }
 
-void xi_log_handler(const char *what, bool is_deviation)
+void xi_log_mark(const char *mark, bool is_deviation)
 {
     if (is_on() || xi_is_piped)
-        log_handler(what, is_deviation);
+        log_mark(mark, is_deviation);
 }
 
 void xi_log_step(const char *action, const char *result, bool is_deviation)
@@ -181,4 +187,10 @@ void xi_log_hold(const char *action)
 {
     if (is_on())
         log_hold(action);
+}
+
+void xi_log_fault(const char *slot, const char *reason)
+{
+    if (is_on())
+        log_fault(slot, reason);
 }

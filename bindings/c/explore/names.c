@@ -10,12 +10,16 @@ static const char *const events[] = { "read", "write", "read", "write", "touch",
                                       "interrupts on", "handler off", "handler on", "handler", "settle", "arrive",
                                       "step", "settle", "offer" };
 
+const char *(*xi_name_here)(void);
+
 /* The access or the request at which the run is. */
 struct place xi_place(void)
 {
     struct place place = { xi_book->event, 0, xi_book->address, NULL };
 
-    for (int ring = 0; ring < 2 && (place.event == LOAD || place.event == STORE); ring++) {
+    if (xi_name_here)
+        place.text = xi_name_here();
+    for (int ring = 0; !place.text && ring < 2 && (place.event == LOAD || place.event == STORE); ring++) {
         const uint32_t *at = xi_book->rings[ring];
         uint64_t from = xi_book->address - (at[0] | (uint64_t)at[1] << 32);
         if (from < at[2])
@@ -70,7 +74,7 @@ void xi_print(FILE *file, const struct deviation *path, unsigned count)
 
 static _Noreturn void refuse(const char *path, unsigned line, const char *why)
 {
-    fprintf(stderr, "explore: %s: line %u: %s\n", path, line, why);
+    fprintf(stderr, "%s: %s: line %u: %s\n", xi_program, path, line, why);
     exit(USAGE);
 }
 
@@ -150,7 +154,7 @@ static void skip_line(FILE *file)
 
 static _Noreturn void refuse_file(const char *path)
 {
-    fprintf(stderr, "explore: %s: it can't be read\n", path);
+    fprintf(stderr, "%s: %s: it can't be read\n", xi_program, path);
     exit(USAGE);
 }
 

@@ -25,6 +25,8 @@ static void print_schedule(FILE *file)
 {
     print_comment(file, xi_command);
     print_comment(file, R.found.fault);
+    if (xi_options_line[0])
+        fprintf(file, "options %s\n", xi_options_line);
     xi_print(file, R.found.path, R.found.count);
 }
 
@@ -64,6 +66,15 @@ static bool is_known_to_server(void)
     return true;
 }
 
+/* Prints the words that play a schedule of this file again. */
+static void say_replay(const char *path)
+{
+    if (xi_has_command)
+        xi_say("tools/races %s%s--replay %s -- %s\n", xi_options_line, xi_options_line[0] ? " " : "", path, xi_command);
+    else
+        xi_say("%s --replay %s\n", xi_command, path);
+}
+
 /* Prints the schedule that was found, and the commands that play it again. */
 void xi_show(void)
 {
@@ -82,7 +93,7 @@ void xi_show(void)
         }
         xi_say("' | ");
     }
-    xi_say("%s --replay %s\n", xi_command, path ? path : R.found.count ? "/dev/stdin" : "/dev/null");
+    say_replay(path ? path : R.found.count ? "/dev/stdin" : "/dev/null");
     xi_say("For each access:    the same with --log\n");
     if (xi_is_nic())
         xi_say("For its chart:      the same with --log --json | tools/run_chart -\n");

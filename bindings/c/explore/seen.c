@@ -65,10 +65,9 @@ static const char *ring(char *into, size_t room, bool sends)
     return into;
 }
 
-/* The kind of the place at which the run is; NULL if there are too many kinds */
-static struct kind *kind_here(void)
+/* The kind of a place; NULL if there are too many kinds */
+static struct kind *kind_of(struct place place)
 {
-    struct place place = xi_place();
     size_t at;
 
     if (place.event <= WRITE)
@@ -106,7 +105,7 @@ void xi_see_place(void)
     if (seen_place->is_seen && seen_place->address == B->address &&
         !memcmp(seen_place->rings, B->rings, sizeof B->rings))
         return;
-    kind = kind_here();
+    kind = kind_of(xi_place());
     if (kind)
         kind->is_later |= B->round > 0;
     seen_place->address = B->address, seen_place->is_seen = B->round > 0;
@@ -116,10 +115,26 @@ void xi_see_place(void)
 /* A deviation has done something before the place at which the run is. */
 void xi_see_deviation(void)
 {
-    struct kind *kind = B->event == ENDED ? NULL : kind_here();
+    struct kind *kind = B->event == ENDED ? NULL : kind_of(xi_place());
 
     if (kind)
         kind->has_deviation = true;
+}
+
+/* Calls a function with each kind of places, for another process. */
+void xi_each_kind(void (*with)(const struct place *place, bool is_later, bool has_deviation))
+{
+    for (unsigned n = 0; n < kind_count; n++)
+        with(&kinds[order[n]].place, kinds[order[n]].is_later, kinds[order[n]].has_deviation);
+}
+
+/* Adds what another process has told of a kind. */
+void xi_add_kind(const struct place *place, bool is_later, bool has_deviation)
+{
+    struct kind *kind = kind_of(*place);
+
+    if (kind)
+        kind->is_later |= is_later, kind->has_deviation |= has_deviation;
 }
 
 /* The next kind without a deviation, those that were reached from round 1 on first. `at` counts from 0 on. Returns NULL
@@ -169,8 +184,9 @@ void xi_say_seen(void)
     char receive[96], transmit[96];
     const char *handler = seen.in_send ? "; the handler ran inside a send" : "; the handler never ran inside a send";
 
-    xi_say("%s; %s; %s frame was missed%s\n", ring(receive, sizeof receive, false),
-           ring(transmit, sizeof transmit, true), seen.missed ? "a" : "no", seen.handled ? handler : "");
+    if (!xi_has_command) /* of a command, the rings aren't looked at */
+        xi_say("%s; %s; %s frame was missed%s\n", ring(receive, sizeof receive, false),
+               ring(transmit, sizeof transmit, true), seen.missed ? "a" : "no", seen.handled ? handler : "");
     say_never();
     if (xi_untold())
         xi_say("the host's memory was changed without an access, first %s: by the test, or by inline assembly\n",

@@ -9,7 +9,8 @@
 #include <string.h>
 #include <unistd.h>
 
-enum { FIRST_BYTES = 64, MOST_ZEROS = 4096, LAST_BYTES = 2 };
+enum { FIRST_BYTES = 64, MOST_ZEROS = 4096, LAST_BYTES = 2, LONGEST_NAME = 192 };
+#define HANDLER "the handler "
 FILE *xi_steps; /* where the steps go; NULL while nobody wants them */
 bool xi_steps_are_short; /* as a page has them, with few bytes of long accesses and of frames */
 static bool is_handlers, was_raised;
@@ -46,7 +47,7 @@ static void print_data(const uint8_t *bytes, size_t count)
 static void end(const char *outcome, bool is_deviation)
 {
     if (outcome)
-        fprintf(xi_steps, ", \"outcome\": \"%s\"", outcome);
+        fprintf(xi_steps, ", \"outcome\": "), xi_print_string(xi_steps, outcome);
     fprintf(xi_steps, is_deviation ? ", \"is_deviation\": true}\n" : "}\n");
     fflush(xi_steps); /* a run may end by a signal */
 }
@@ -64,7 +65,7 @@ static void add_line(void)
 /* Begins the step of the access at which the run is. */
 static void begin_access(void)
 {
-    char name[32], *space;
+    char name[LONGEST_NAME], *space;
     struct place here = xi_place();
 
     xi_name(name, sizeof name, &here);
@@ -132,7 +133,7 @@ void xi_step_touch(const uint8_t *bytes, size_t count)
 
 void xi_step_request(const char *result)
 {
-    char name[32], whole[64];
+    char name[LONGEST_NAME], whole[LONGEST_NAME + 32];
     struct place here = xi_place();
 
     xi_name(name, sizeof name, &here);
@@ -145,13 +146,14 @@ void xi_step_request(const char *result)
     add_line();
 }
 
-void xi_step_handler(const char *what, bool is_deviation)
+/* A mark, such as that the handler cuts in: until the next one of the handler, what follows is the handler's. */
+void xi_step_mark(const char *mark, bool is_deviation)
 {
-    char mark[32];
+    bool is_of_handler = !strncmp(mark, HANDLER, strlen(HANDLER));
 
-    snprintf(mark, sizeof mark, "the handler %s", what);
-    is_handlers = strcmp(what, "cuts in") == 0;
-    begin_whole("handler", "mark"), end(mark, is_deviation);
+    if (is_of_handler)
+        is_handlers = !strcmp(mark + strlen(HANDLER), "cuts in");
+    begin_whole(is_of_handler ? "handler" : actor(), "mark"), end(mark, is_deviation);
 }
 
 /* A step of the device, or the arrival of an offered frame. A frame that is put on the wire is a step of the wire. */
@@ -174,6 +176,14 @@ void xi_step_hold(const char *action)
     const char *space = strchr(action, ' ');
 
     begin("adapter", action, (size_t)(space - action)), end(space + 1, true);
+}
+
+/* Why the last step was a fault */
+void xi_step_fault(const char *slot, const char *reason)
+{
+    begin_whole("adapter", "fault");
+    fprintf(xi_steps, ", \"name\": \"%s\"", slot);
+    end(reason, false);
 }
 
 /* Prints the first line of the log of a schedule. */

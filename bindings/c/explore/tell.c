@@ -16,6 +16,7 @@ static volatile unsigned run_seconds; /* of this run */
 static bool is_late; /* whether a run has taken too long */
 static char late[64];
 FILE *xi_out, *xi_errors;
+bool xi_is_cut;
 static bool has_progress; /* whether a line of progress is on the terminal */
 
 static double seconds_since(const struct timespec *then)
@@ -24,6 +25,14 @@ static double seconds_since(const struct timespec *then)
 
     clock_gettime(CLOCK_MONOTONIC, &now);
     return (double)(now.tv_sec - then->tv_sec) + (double)(now.tv_nsec - then->tv_nsec) / 1e9;
+}
+
+/* Seconds that have passed since some moment: of this process, or, if a command is run, of a clock */
+double xi_spent(void)
+{
+    static struct timespec moment;
+
+    return xi_has_command ? seconds_since(&moment) : (double)clock() / CLOCKS_PER_SEC;
 }
 
 /* Signals, and the time of a run */
@@ -114,6 +123,12 @@ int xi_stopped(void)
     return stopped;
 }
 
+/* Asks for an end, as this signal would. */
+void xi_stop(int number)
+{
+    stopped = number;
+}
+
 /* Why a search has ended before its end */
 const char *xi_why(void)
 {
@@ -141,7 +156,7 @@ void xi_open(bool shares)
 _Noreturn void xi_die(const char *why)
 {
     xi_pause();
-    fprintf(xi_errors ? xi_errors : stderr, "explore: %s\n", why);
+    fprintf(xi_errors ? xi_errors : stderr, "%s: %s\n", xi_program, why);
     exit(NOT_RUN);
 }
 
@@ -149,8 +164,8 @@ _Noreturn void xi_die(const char *why)
 _Noreturn void xi_die_of(const char *what, const char *name)
 {
     xi_pause();
-    fprintf(xi_errors ? xi_errors : stderr, "explore: %s%s%s: it can't be saved with the state of the test\n", what,
-            name && *name ? ": " : "", name ? name : "");
+    fprintf(xi_errors ? xi_errors : stderr, "%s: %s%s%s: it can't be saved with the state of the test\n", xi_program,
+            what, name && *name ? ": " : "", name ? name : "");
     exit(NOT_RUN);
 }
 

@@ -38,12 +38,14 @@ static const char help[] =
     "schedule played from nothing. If a signal ends the search, 128 and its number: 130 after Ctrl-C, 143 after\n"
     "SIGTERM.\n";
 
+const char *xi_program = "explore", *xi_help = help;
+bool xi_has_command;
 struct given xi_given = { .depth = DRAWN, .runs = 1000, .seed = 1, .states = 20000000, .seconds = 60 };
-char xi_command[1024];
+char xi_command[1024], xi_options_line[512];
 
 static _Noreturn void refuse(const char *word, const char *why)
 {
-    fprintf(stderr, "explore: %s: %s\nFor more information, try '--help'.\n", word, why);
+    fprintf(stderr, "%s: %s: %s\nFor more information, try '--help'.\n", xi_program, word, why);
     exit(USAGE);
 }
 
@@ -133,7 +135,7 @@ void xi_take_words(int count, char **words)
 
     for (int m = 1; m < count; m++)
         if (!strcmp(words[m], "--help") || !strcmp(words[m], "-h")) {
-            fputs(help, stdout);
+            fputs(xi_help, stdout);
             exit(PASSES);
         }
     while (n < count && strncmp(words[n], "--", 2)) {

@@ -1,0 +1,146 @@
+/* The places of a run: the lines of COMMAND that are accesses, or begin rounds. */
+#include "races.h"
+#include <string.h>
+
+#define B xi_book
+#define S xi_state
+
+static struct book book;
+static struct state state;
+struct book *const xi_book = &book;
+struct state *const xi_state = &state;
+
+static char *line; /* the one that is answered next, or NULL */
+static size_t line_size;
+static char name[MOST_NAME];
+bool xr_is_at_place;
+
+static const char *name_here(void)
+{
+    return B->event == ENDED ? "the end" : xr_kept(name);
+}
+
+/* Begins a run: with a new adapter, and with a new process of COMMAND if `is_new` is true. */
+void xi_begin(bool is_new)
+{
+    memset(&book, 0, offsetof(struct book, path));
+    S->fault = NULL, S->choice = 0, S->offered = 0, S->offers.count = S->arrived.count = 0;
+    line = NULL, xi_name_here = name_here;
+    xi_device->reset();
+    xr_begin_command(is_new);
+}
+
+static bool is_word(const char *word)
+{
+    size_t size = strlen(word);
+
+    return line_size >= size && !memcmp(line, word, size) && (line_size == size || line[size] == ' ');
+}
+
+/* Whether this line isn't for the adapter, or would make the places of a run others: then answers it. */
+static bool answers_here(void)
+{
+    static const char ok[] = "OK\n", unknown[] = "FAIL unknown\n", off[] = "interleave 0";
+
+    if (is_word("mark"))
+        xr_tell(ok, sizeof ok - 1);
+    else if (is_word("save") || is_word("restore"))
+        xr_tell(unknown, sizeof unknown - 1);
+    else if (is_word("interleave")) {
+        xr_tell(xr_told(), xr_answer(line, line_size));
+        xr_answer(off, sizeof off - 1);
+    } else
+        return false;
+    return true;
+}
+
+/* Answers the line at which the run is. */
+static void answer(void)
+{
+    size_t size;
+
+    xi_answer_bytes((const uint8_t *)line, line_size);
+    if (xr_is_shown && xr_answers_shown(line, line_size))
+        return;
+    if (answers_here())
+        return;
+    size = xr_answer(line, line_size);
+    xi_answer_bytes((const uint8_t *)xr_told(), size);
+    if (xr_is_shown)
+        xr_show_answer(line, line_size, xr_told(), size);
+    else
+        xr_tell(xr_told(), size);
+    xi_change();
+}
+
+/* The event of a line, and the beginning of its name. Names of descriptors and addresses are those of memory. */
+static enum event event_of(uint32_t kind, const char *target, const char **word)
+{
+    bool is_memory = !strncmp(target, "rx[", 3) || !strncmp(target, "tx[", 3) || !strncmp(target, "0x", 2);
+
+    *word = "";
+    switch (kind) {
+    case NIC_COMES_READ: *word = "read "; return is_memory ? LOAD : READ;
+    case NIC_COMES_WRITE: *word = "write "; return is_memory ? STORE : WRITE;
+    case NIC_COMES_ARRIVE: return ARRIVE;
+    case NIC_COMES_OFFER: return OFFER;
+    case NIC_COMES_STEP: return STEP; /* it can't be held */
+    case NIC_COMES_SETTLE: return SETTLE;
+    default: return CHOOSE;
+    }
+}
+
+/* Notes what the line is. Returns whether it is a place. */
+static bool is_place(void)
+{
+    struct nic82540em_coming coming;
+    char target[MOST_NAME] = "";
+    const char *word;
+    size_t size = nic82540em_comes(&xr_server, line, line_size, &coming, target, sizeof target - 1);
+
+    if (coming.kind == NIC_COMES_NOTHING) {
+        if (!size && !nic82540em_answers(&xr_server, 0))
+            xi_die("memory is refused");
+        return false;
+    }
+    target[size < sizeof target ? size : sizeof target - 1] = 0;
+    B->event = event_of(coming.kind, target, &word);
+    B->address = B->event == CHOOSE  ? coming.limit
+                 : B->event == STEP  ? UINT64_MAX
+                 : B->event <= WRITE ? coming.address - xr_given.registers
+                                     : coming.address;
+    snprintf(name, sizeof name, "%s%s", word, target);
+    xi_has_offered |= B->event == OFFER, xi_has_chosen |= B->event == CHOOSE && coming.limit > 1;
+    S->choice = 0;
+    if (B->event == CHOOSE)
+        S->offers.count = S->offered; /* before `choose`, only its answer can be played */
+    else
+        xr_note_offers();
+    return true;
+}
+
+static void end(void)
+{
+    B->event = ENDED, line = NULL;
+    S->fault = xr_end_command();
+}
+
+/* Answers the line at which the run is, and goes on to the next place. */
+void xi_to_test(void)
+{
+    if (line) {
+        if (B->event == CHOOSE)
+            nic82540em_answers(&xr_server, S->choice);
+        answer();
+    }
+    for (;;) {
+        if (!xr_next_line(&line, &line_size)) {
+            end();
+            return;
+        }
+        xr_keep_line(line, line_size);
+        if ((xr_is_at_place = is_place()))
+            return;
+        answer();
+    }
+}
