@@ -2,7 +2,7 @@
  * run without deviations.
  *
  * A process is forked before the first run. At the end, it plays both runs, each in a process of its own, and stores
- * the page. */
+ * the page. The runs of a command need no such process, since each begins from nothing. */
 #define _GNU_SOURCE
 #include "inside.h"
 #include <errno.h>
@@ -132,6 +132,8 @@ void xi_html_begin(void)
     close(file);
     if (!is_there)
         unlink(xi_given.html);
+    if (xi_has_command)
+        return;
     if (pipe(pipes))
         xi_die("a pipe can't be made");
     if (!(writer = xi_forked())) {
@@ -163,11 +165,15 @@ int xi_html_end(int status)
 
     if (!xi_given.html)
         return status;
-    is_written = write(to_writer, &count, sizeof count) == (ssize_t)sizeof count;
-    for (unsigned n = 0; is_needed && n < count; n++)
-        is_written &= is_sent(&found->path[n]);
-    close(to_writer);
-    waitpid(writer, &ended, 0);
+    if (xi_has_command)
+        is_written = !is_needed || is_stored(found->path, count), ended = 0;
+    else {
+        is_written = write(to_writer, &count, sizeof count) == (ssize_t)sizeof count;
+        for (unsigned n = 0; is_needed && n < count; n++)
+            is_written &= is_sent(&found->path[n]);
+        close(to_writer);
+        waitpid(writer, &ended, 0);
+    }
     if (!is_written || ended) {
         fprintf(xi_errors, "%s: --html: %s: the page can't be written\n", xi_program, xi_given.html);
         return NOT_RUN;

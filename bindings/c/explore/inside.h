@@ -303,6 +303,7 @@ void xi_log_fault(const char *slot, const char *reason);
 
 /* steps.c: the steps of a run in JSON. log.c calls these functions while xi_steps isn't NULL. */
 extern FILE *xi_steps;
+extern void (*xi_draws_chart)(const struct deviation *path, unsigned count);
 extern bool xi_steps_are_short;
 void xi_step_value(uint32_t value);
 void xi_step_bytes(const void *bytes, size_t count);

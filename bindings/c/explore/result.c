@@ -95,7 +95,7 @@ void xi_show(void)
     }
     say_replay(path ? path : R.found.count ? "/dev/stdin" : "/dev/null");
     xi_say("For each access:    the same with --log\n");
-    if (xi_is_nic())
+    if (xi_is_nic() && !xi_draws_chart)
         xi_say("For its chart:      the same with --log --json | tools/run_chart -\n");
 }
 

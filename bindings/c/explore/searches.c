@@ -447,10 +447,11 @@ int xi_replay_given(void)
     is_unreached = !lack.text[0] && lack.unreached < found->count;
     if (lack.text[0])
         xi_say("%s\n", lack.text);
-    found->fails = xi_state->fault;
+    found->fails = xi_state->fault != NULL;
     if (found->fails)
         snprintf(found->fault, sizeof found->fault, "%s", xi_state->fault);
-    xi_say("%s\n", found->fails ? found->fault : "The test passes.");
+    if (!xi_steps) /* else this is the log's end */
+        xi_say("%s\n", found->fails ? found->fault : "The test passes.");
     xi_confirm_found();
     if (is_unreached)
         return unreached(lack.unreached);

@@ -12,6 +12,7 @@
 enum { FIRST_BYTES = 64, MOST_ZEROS = 4096, LAST_BYTES = 2, LONGEST_NAME = 192 };
 #define HANDLER "the handler "
 FILE *xi_steps; /* where the steps go; NULL while nobody wants them */
+void (*xi_draws_chart)(const struct deviation *path, unsigned count); /* begins the log of a chart; or NULL */
 bool xi_steps_are_short; /* as a page has them, with few bytes of long accesses and of frames */
 static bool is_handlers, was_raised;
 
@@ -189,6 +190,7 @@ void xi_step_fault(const char *slot, const char *reason)
 /* Prints the first line of the log of a schedule. */
 void xi_steps_begin(FILE *file, const struct deviation *path, unsigned count)
 {
+    is_handlers = was_raised = false;
     fprintf(file, "{\"format\": \"nic82540em race log\", \"version\": 2, \"command\": ");
     xi_print_string(file, xi_command);
     fprintf(file, ", \"schedule\": "), xi_print_lines(file, path, count), fprintf(file, "}\n");
@@ -200,6 +202,8 @@ void xi_steps_open(const struct deviation *path, unsigned count)
 {
     int own;
 
+    if (xi_draws_chart)
+        xi_draws_chart(path, count);
     if (!xi_given.log || !xi_given.json)
         return;
     fflush(stdout);

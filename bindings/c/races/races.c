@@ -22,9 +22,11 @@ int main(int count, char **words)
     xi_open(true);
     xi_listen();
     xr_prepare_command();
-    xi_html_begin();
+    xi_html_begin(), xr_begin_chart();
     xr_deal_drawn();
     status = xi_given.replay ? xi_replay_given() : searched();
+    xr_close_command(), xr_end_chart();
+    status = xi_html_end(status);
     xr_close_command();
-    return xi_html_end(status);
+    return status;
 }
