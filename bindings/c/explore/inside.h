@@ -337,6 +337,8 @@ struct found { /* what a search has shown */
 extern uint64_t xi_repeated; /* runs of searches that were played again from nothing */
 extern uint64_t xi_played_on; /* runs that were played on from known states */
 void xi_explore(int depth, bool with_holds, bool finds_all, size_t most_states, struct found *found);
+extern bool xi_has_keys; /* whether states that can't be saved can be compared */
+extern int (*xi_share)(uint8_t *actions, int count); /* what keeps the options of this process, or NULL */
 void xi_keep(struct found *found);
 unsigned xi_below(unsigned end);
 extern struct pct {
@@ -409,6 +411,7 @@ void xi_print_failed(void);
 uint64_t xi_failed(void);
 
 /* searches.c: the searches of a command */
+extern bool xi_is_first_short; /* whether schedules of one deviation are tried first, though no state is saved */
 extern void (*xi_takes_drawn)(uint64_t seed); /* what plays the runs of seeds elsewhere, or NULL */
 int xi_by_depth(void);
 int xi_by_draws(void);

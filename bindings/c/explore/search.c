@@ -28,6 +28,8 @@ struct extra {
 static struct schedule_search search;
 static struct schedule_choice path[MOST_CHOICES];
 static struct extra extras[MOST_CHOICES];
+bool xi_has_keys;
+int (*xi_share)(uint8_t *actions, int count);
 static bool is_every, has_holds, goes_on;
 static uint64_t ends, next_end; /* of runs, so far; of them, the next that is played again from nothing */
 static unsigned used_before;    /* what dead.c knew when the search began */
@@ -149,9 +151,15 @@ static int options_here(uint8_t *actions)
         if (is_tried && is_possible(action))
             actions[count++] = (uint8_t)action;
     }
-    for (unsigned answer = 1; B->event == CHOOSE && answer < B->address; answer++)
+    for (unsigned answer = 1; B->event == CHOOSE && answer < B->address && answer <= MOST_ANSWERS; answer++)
         actions[count++] = (uint8_t)(CHOICE + answer - 1);
     return count;
+}
+
+/* Of a search by several processes: keeps the options of this one. Returns their number. */
+static int shared(uint8_t *actions, int count)
+{
+    return xi_share && !B->path_count && B->event != ENDED ? xi_share(actions, count) : count;
 }
 
 static void go_on(void)
@@ -166,13 +174,15 @@ static int next_choice(uint8_t *actions)
     for (;;) {
         if (B->event == ENDED)
             return 0;
-        for (; B->stage < xi_clocks; B->stage++)
-            if (has_holds && xi_possible() >> xi_clock[B->stage] & 1) {
-                actions[0] = (uint8_t)(HOLD + B->stage);
+        for (; B->stage < xi_clocks; B->stage++) {
+            bool has_work = xi_possible() >> xi_clock[B->stage] & 1;
+            actions[0] = (uint8_t)(HOLD + B->stage);
+            if (has_work && has_holds && shared(actions, 1))
                 return 1;
-            } else if (xi_possible() >> xi_clock[B->stage] & 1)
+            if (has_work)
                 xi_play(xi_clock[B->stage]);
-        int count = options_here(actions);
+        }
+        int count = shared(actions, options_here(actions));
         if (count)
             return count;
         go_on();
@@ -257,9 +267,9 @@ static bool is_end_repeated(struct found *found)
  * many in all that a small part of the work of the search is spent on them. */
 static unsigned runs_from_here(void)
 {
-    if (!xi_saves || !search.count)
+    if (!search.count)
         return 0;
-    return ++known_met <= FIRST_KNOWN ? RUNS_EACH : PART_KNOWN * played_places <= met_count;
+    return ++known_met <= FIRST_KNOWN ? xi_saves ? RUNS_EACH : 1 : PART_KNOWN * played_places <= met_count;
 }
 
 /* Plays on to the end of the run, by options that are drawn. */
@@ -283,10 +293,11 @@ static bool is_known_right(struct found *found)
     static struct saved here;
     unsigned count = runs_from_here();
 
-    if (count)
+    if (count && xi_saves)
         xi_save(&here);
     for (unsigned n = 0; n < count; n++) {
-        xi_restore(&here);
+        if (xi_saves)
+            xi_restore(&here);
         play_on();
         if (used_before != xi_dead_used || all_before != xi_reads_dead || xi_stopped())
             return true;
@@ -312,10 +323,10 @@ static bool forward(struct found *found, double *counts)
         if (count == 0) {
             if (!is_end_repeated(found))
                 return false;
-            memset(counts, 0, width() * sizeof *counts), counts[0] = 1;
+            memset(counts, 0, width() * sizeof *counts), counts[0] = !xi_is_cut;
             return !S->fault || fail(found, counts);
         }
-        if (xi_saves)
+        if (xi_saves || xi_has_keys)
             place.key = key_here();
         met_count++;
         met = schedule_search_meet(&search, path, MOST_CHOICES, table, room, &place);
@@ -347,7 +358,7 @@ static void return_to_newest(void)
     for (search.count = 0; search.count < count; search.count++) {
         if (search.count)
             take_newest();
-        if (next_choice(actions) != (int)path[search.count].place.possible)
+        if (next_choice(actions) != (int)path[search.count].place.possible && !xi_is_cut)
             xi_die("a run isn't as before: what does the test keep outside of its stack and x_memory?");
     }
 }

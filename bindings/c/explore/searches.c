@@ -6,6 +6,7 @@
 
 enum { STATES_SMALLER = 500000, DEEPEST_FIRST = 3, STATES_FIRST = 10000, COMPARED = 32, FEW = 2 };
 
+bool xi_is_first_short;
 void (*xi_takes_drawn)(uint64_t seed);
 static struct found *const found = &xi_result.found;
 static uint64_t deviations, compared; /* above 0 if a deviation did something; the number of compared runs */
@@ -379,7 +380,7 @@ static int draw(void)
 static int explore_first(void)
 {
     xi_result.first = 0;
-    for (int depth = 1; depth <= DEEPEST_FIRST && (depth == 1 || found->states <= STATES_FIRST); depth++) {
+    for (int depth = 1; depth == 1 || (xi_saves && depth <= DEEPEST_FIRST && found->states <= STATES_FIRST); depth++) {
         bool is_complete = explore(depth, xi_given.states, false);
         xi_result.first = xi_result.schedules;
         if (!is_complete)
@@ -408,7 +409,7 @@ int xi_by_draws(void)
         xi_say("PCT, depth %u: %u actors, %u events: a run of no more events finds a race of this depth%s with a "
                "probability of at least 1/%.0f\n", xi_pct.depth, xi_pct.actors, xi_pct.events,
                xi_has_chosen || xi_given.holds ? ", with its answers and holds," : "", xi_bound());
-    } else if (xi_given.depth == DRAWN && xi_saves && !xi_given.check && !xi_given.all)
+    } else if (xi_given.depth == DRAWN && (xi_saves || xi_is_first_short) && !xi_given.check && !xi_given.all)
         status = explore_first();
     if (status < 0)
         status = draw();

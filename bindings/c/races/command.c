@@ -70,13 +70,19 @@ static void nothing(int number)
     (void)number;
 }
 
+/* From now on, orphans of COMMAND come to this process. A process that is forked doesn't inherit this. */
+void xr_adopt_orphans(void)
+{
+    prctl(PR_SET_CHILD_SUBREAPER, 1);
+}
+
 /* A command that no longer reads isn't the end of this process. A signal with a handler has its default in COMMAND. */
 void xr_prepare_command(void)
 {
     struct sigaction action = { .sa_handler = nothing };
 
     sigaction(SIGPIPE, &action, NULL);
-    prctl(PR_SET_CHILD_SUBREAPER, 1);
+    xr_adopt_orphans();
     setenv("NIC_MARKS", "on", 1);
 }
 

@@ -45,8 +45,8 @@ static void compare(const char *line, size_t size)
     }
     if (!has_first && !line)
         return;
-    snprintf(difference, sizeof difference, "after access %u of round %u, COMMAND %s%.*s%s in the first run, and %s%.*s%s then",
-             B->access, B->round, has_first ? "sends `" : "ends", has_first ? shown(first) : 0,
+    snprintf(difference, sizeof difference, "after %u.%u, COMMAND %s%.*s%s in the first run, and %s%.*s%s then",
+             B->round, B->access, has_first ? "sends `" : "ends", has_first ? shown(first) : 0,
              has_first ? lines + at + sizeof first : "", has_first ? "`" : "", line ? "sends `" : "ends",
              line ? shown(size) : 0, line ? line : "", line ? "`" : "");
 }

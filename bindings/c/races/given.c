@@ -85,14 +85,39 @@ static void take_jobs(const char *value)
     xr_given.jobs = (unsigned)count;
 }
 
-/* The words of COMMAND as a text */
+static void append(char c)
+{
+    size_t size = strlen(xi_command);
+
+    if (size + 1 < sizeof xi_command)
+        xi_command[size] = c, xi_command[size + 1] = 0;
+}
+
+/* Appends a word of COMMAND, as a shell reads it. */
+static void append_word(const char *word)
+{
+    static const char plain[] = "ABCDEFGHIJKLMNOPQRSTUVWXYZabcdefghijklmnopqrstuvwxyz0123456789%+,-./:=@_";
+    bool is_plain = *word && word[strspn(word, plain)] == 0;
+
+    if (!is_plain)
+        append('\'');
+    for (; *word; word++)
+        if (*word == '\'')
+            append('\''), append('\\'), append('\''), append('\'');
+        else
+            append(*word);
+    if (!is_plain)
+        append('\'');
+}
+
 static void name_command(void)
 {
-    size_t size = 0;
-
-    for (char **word = xr_given.command; *word && size < sizeof xi_command; word++)
-        size += (size_t)snprintf(xi_command + size, sizeof xi_command - size, "%s%s",
-                                 word == xr_given.command ? "" : " ", *word);
+    xi_command[0] = 0;
+    for (char **word = xr_given.command; *word; word++) {
+        if (word != xr_given.command)
+            append(' ');
+        append_word(*word);
+    }
 }
 
 /* Takes an option of the chart. Returns whether it is one. */

@@ -7,6 +7,7 @@
 #define _GNU_SOURCE
 #include "races.h"
 #include <errno.h>
+#include <fcntl.h>
 #include <sched.h>
 #include <stdlib.h>
 #include <string.h>
@@ -81,8 +82,8 @@ bool xr_receive(unsigned job, void *into, size_t size)
     char *at = into;
 
     while (size) {
-        ssize_t got = read(jobs[job].from, at, size);
-        if (got < 0 && errno == EINTR && !xi_stopped())
+        ssize_t got = xi_stopped() ? 0 : read(jobs[job].from, at, size);
+        if (got < 0 && errno == EINTR)
             continue;
         if (got <= 0)
             return false;
@@ -151,14 +152,14 @@ unsigned xr_begin_jobs(uint64_t most, void (*work)(unsigned job, unsigned all))
         return 1;
     xr_close_command();
     for (count = 0; count < all; count++) {
-        if (pipe(pipes))
+        if (pipe2(pipes, O_CLOEXEC))
             xi_die("a pipe can't be made");
         jobs[count].pid = xi_forked();
         if (!jobs[count].pid) {
             for (unsigned n = 0; n < count; n++)
                 close(jobs[n].from);
             close(pipes[0]), to = pipes[1];
-            pin(count);
+            pin(count), xr_adopt_orphans();
             work(count, all);
             xi_each_kind(send_kind);
             xr_close_command();

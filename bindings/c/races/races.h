@@ -24,6 +24,7 @@ void xr_take_schedules_options(const char *path);
 
 /* command.c: the process of COMMAND, and what it writes */
 void xr_prepare_command(void);
+void xr_adopt_orphans(void);
 void xr_begin_command(bool is_new);
 bool xr_next_line(char **line, size_t *size);
 void xr_tell(const void *bytes, size_t size);

@@ -128,6 +128,8 @@ static void end(void)
 /* Answers the line at which the run is, and goes on to the next place. */
 void xi_to_test(void)
 {
+    if (B->event == ENDED)
+        return;
     if (line) {
         if (B->event == CHOOSE)
             nic82540em_answers(&xr_server, S->choice);
