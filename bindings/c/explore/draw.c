@@ -109,7 +109,7 @@ static void draw_answer(bool with_holds)
     unsigned choice = B->event == CHOOSE ? xi_below((unsigned)B->address) : 0;
 
     if (choice)
-        xi_choose(choice);
+        xi_deviate(CHOICE + (int)choice - 1);
     else if (with_holds && is_step && draw() % 4 == 0)
         xi_deviate(HOLD_STEP);
 }
@@ -217,12 +217,6 @@ static bool is_here(const struct deviation *one)
     return one->round == B->round && one->access == B->access && one->sub == B->sub;
 }
 
-/* Whether the run goes on after this deviation */
-static bool is_last(const struct deviation *one)
-{
-    return one->action == IRQ || one->action == LATE_IRQ || one->action == HOLD_STEP || one->action == CHOICE;
-}
-
 /* If this deviation names another access or request than the one here, notes it. */
 static void compare_place(const struct deviation *one, struct lack *lack)
 {
@@ -237,21 +231,13 @@ static void compare_place(const struct deviation *one, struct lack *lack)
     snprintf(lack->text + size, sizeof lack->text - size, ": at this place, the test makes another access: %s", name);
 }
 
-static void play_one(const struct deviation *one)
-{
-    if (one->action == CHOICE)
-        xi_choose(one->choice);
-    else
-        xi_deviate(one->action);
-}
-
 /* Plays the default steps and the deviations of a place, those after an interrupt or an answer excepted. Returns the
  * index of the first later deviation. `lack` gets the first deviation that names another access. */
 static unsigned play_here(const struct deviation *path, unsigned at, unsigned count, struct lack *lack)
 {
     unsigned end = at;
 
-    while (end < count && is_here(&path[end]) && (end == at || !is_last(&path[end - 1])))
+    while (end < count && is_here(&path[end]) && (end == at || !xi_ends_place(path[end - 1].action)))
         end++;
     for (unsigned n = at; lack && !lack->text[0] && n < end; n++)
         compare_place(&path[n], lack);
@@ -266,7 +252,7 @@ static unsigned play_here(const struct deviation *path, unsigned at, unsigned co
     }
     for (unsigned n = at; n < end; n++)
         if (!is_hold(&path[n], 0) && !is_hold(&path[n], 1))
-            play_one(&path[n]);
+            xi_deviate(path[n].action);
     return end;
 }
 
