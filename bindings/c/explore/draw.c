@@ -1,4 +1,4 @@
-/* Draws schedules, plays given ones, and makes one that fails smaller. */
+/* Draws schedules, and plays given ones. */
 #include "inside.h"
 #include <stdio.h>
 #include <stdlib.h>
@@ -269,74 +269,4 @@ void xi_replay(const struct deviation *path, unsigned count, bool is_new, struct
         at = play_here(path, at, count, lack);
     if (lack)
         lack->unreached = at;
-}
-
-/* Plays a schedule. If the run fails with fewer deviations than were kept, keeps these deviations. Returns whether they
- * were kept. */
-static bool keep_shorter(struct found *found, const struct deviation *path, unsigned count)
-{
-    xi_replay(path, count, false, NULL);
-    if (!S->fault || B->path_count >= found->count)
-        return false;
-    xi_keep(found);
-    return true;
-}
-
-/* Leaves out each sequence of deviations without which the schedule still fails: first halves, and in the end single
- * deviations. */
-static void leave_out(struct found *found)
-{
-    static struct deviation less[MOST_PATH];
-
-    for (unsigned part = found->count / 2 ? found->count / 2 : 1; part; part /= 2)
-        for (unsigned at = 0; at < found->count;) {
-            unsigned end = at + part < found->count ? at + part : found->count;
-            memcpy(less, found->path, at * sizeof *less);
-            memcpy(less + at, found->path + end, (found->count - end) * sizeof *less);
-            if (!keep_shorter(found, less, found->count - (end - at)))
-                at = end;
-        }
-}
-
-/* Plays two deviations as their pair, at the place of the first one or of the second one. Returns whether the shorter
- * schedule is kept. */
-static bool join(struct found *found, unsigned first, unsigned second, int pair)
-{
-    static struct deviation less[MOST_PATH];
-
-    for (int is_second = 0; is_second < 2; is_second++) {
-        unsigned gone = is_second ? first : second, kept = is_second ? second : first;
-        memcpy(less, found->path, found->count * sizeof *less);
-        less[kept].action = pair;
-        memmove(less + gone, less + gone + 1, (found->count - gone - 1) * sizeof *less);
-        if (keep_shorter(found, less, found->count - 1))
-            return true;
-    }
-    return false;
-}
-
-/* Joins a step and the next one that belongs to it to their pair, also if they are at different places. Returns whether
- * the schedule is shorter. */
-static bool join_one(struct found *found)
-{
-    for (unsigned first = 0; first < found->count; first++)
-        for (int n = 0; n < PAIRS; n++) {
-            const struct x_pair *pair = &xi_device->pairs[n];
-            unsigned second = first + 1;
-            if (!pair->name || found->path[first].action != (int)pair->first)
-                continue;
-            while (second < found->count && found->path[second].action != (int)pair->second)
-                second++;
-            if (second < found->count && join(found, first, second, PAIR + n))
-                return true;
-        }
-    return false;
-}
-
-/* Makes a schedule that fails shorter. */
-void xi_shrink(struct found *found)
-{
-    do
-        leave_out(found);
-    while (join_one(found));
 }

@@ -337,8 +337,10 @@ struct lack {
     unsigned unreached;
 };
 void xi_replay(const struct deviation *path, unsigned count, bool is_new, struct lack *lack);
-void xi_shrink(struct found *found);
 void xi_forget_first_round(void);
+
+/* shrink.c: smaller schedules that fail */
+void xi_shrink(struct found *found);
 
 /* words.c: what the words of the command ask for */
 enum { DRAWN = -2 };
