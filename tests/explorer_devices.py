@@ -15,7 +15,9 @@ NO_KINDS = "the device has no kinds of steps, more than 8, or clocks that aren't
 REFUSED = {"null": NO_PART, "no-line": NO_PART, "no-kinds": NO_KINDS, "nine-kinds": NO_KINDS, "no-kind": NO_KINDS,
            "engine": "a kind of the device's steps has no name, or a number of an engine above 7",
            "clocks": "the device has more than two clocks", "memory": "the host has more than 16 MiB of memory",
-           "pair": "a pair of the device isn't one of its kinds of steps"}
+           "pair": "a pair of the device isn't one of its kinds of steps",
+           **dict.fromkeys(("two-engines", "clock-pair"),
+                           "a pair of the device has steps of two engines, or one of a clock")}
 
 
 def searched(bench, program, *words):

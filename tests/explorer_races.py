@@ -340,6 +340,7 @@ def schedules(bench):
              "it doesn't begin with a place, such as 4.6, of numbers up to 4294967295"),
             ("unsorted", good + good.replace("4.6", "4.5+1"), 2, "sort the lines by place"),
             ("no answer", "4.6 choose 0 before choose\n", 1, "it has no deviation, such as rx"),
+            ("a high answer", "4.6 choose 16 before choose\n", 1, "an answer is at most 15"),
             ("a long line", "4.6 rx before " + "x" * 300 + "\n", 1, "it has more than 255 characters"),
             ("unreached", good + "999.1 rx before read ICR\n", 2, "the run doesn't reach this place")]:
         path = bench.source("schedule.txt", text)

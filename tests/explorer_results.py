@@ -34,6 +34,29 @@ SEEN = [("stages", "right --explore 1", [True, True, True, True, False, None], 3
          "before 1 of 12 kinds of places; never before write RDT, arrive, read ICR, read rx[]+12, write rx[], nor "
          "before 6 that only round 0 has")]
 SEEN_KEYS = "receive_wrapped", "receive_dry", "transmit_wrapped", "transmit_full", "missed", "handler_in_send"
+# A test that fails if two frames are sent before it looks at their descriptors. A search that ends early finds it only
+# by schedules in which each frame has its two steps at two places.
+SENDS = """
+#include <nic82540em_explore.h>
+static const char *test(void *word)
+{
+    uint64_t descriptor[2] = { 0x4000, 60 | 9u << 24 };
+    uint8_t first, last;
+    (void)word;
+    x_write(NIC_TDBAL, 0x1000);
+    x_write(NIC_TDLEN, 128);
+    x_write(NIC_TCTL, NIC_TCTL_EN);
+    for (unsigned n = 0; n < 2; n++)
+        x_store(0x1000 + 16 * n, descriptor, 16);
+    x_write(NIC_TDT, 2);
+    for (int n = 0; n < 6; n++)
+        x_load(0x100C, &first, 1);
+    x_load(0x101C, &last, 1);
+    x_settle();
+    return first & last & 1 ? "both were sent" : 0;
+}
+int main(int count, char **words) { return nic82540em_explore(count, words, test, 0); }
+"""
 # The line in which the handler of my_test.c reads ICR, and the end of this handler
 READS_ICR, LOOPS = ("    x_read(NIC_ICR); /* first: a frame that is finished later raises the line again */\n",
                     "    }\n}\n\nstatic void send(")
@@ -316,6 +339,15 @@ def as_json(bench, stages, longer):
     bench.check("json: a long one is shrunk", (len(result["schedule"]), result["search"]["smallest"]), (7, True))
 
 
+def smaller(bench):
+    """A search that ends early shrinks the schedule that it has found: steps at two places become pairs."""
+    test = bench.build("sends", bench.source("sends.c", SENDS))
+    status, result = result_of(bench, test, "--explore", "8", "--all", "--states", "8")
+    lengths_of = {len(one["schedule"]) for one in result["search"]["failed"]}
+    bench.check("smaller: pairs", (status, lengths_of, result["schedule"]),
+                (FOUND, {4}, ["0.7 tx before read tx[0]+12"] * 2))
+
+
 def nothing(bench, empty):
     """A test that makes no access isn't searched, with any options. The only line of output reports this."""
     for words in ([], ["--check"], ["--pct", "2"], ["--all"], ["--explore", "every"], ["--explore", "2", "--all"]):
@@ -421,6 +453,7 @@ def check_results(bench, stages, empty):
     faults(bench, counter)
     handlers(bench, stopped, looks)
     as_json(bench, stages, longer)
+    smaller(bench)
     seen(bench, stages)
     nothing(bench, empty)
     signals(bench, stages)

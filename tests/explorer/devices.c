@@ -34,7 +34,7 @@ static const char *test(void *word)
 
 int main(int count, char **words)
 {
-    static const unsigned engines[] = { 0, 1, 8 };
+    static const unsigned engines[] = { 0, 1, 8 }, two[] = { 0, 0, 1 };
     const char *name = count > 1 ? words[1] : "";
 
     device = copier;
@@ -54,10 +54,16 @@ int main(int count, char **words)
         device.memory = (1 << 24) + 1;
     else if (!strcmp(name, "pair"))
         device.pairs[0] = (struct x_pair){ "both", 1, 3 };
+    else if (!strcmp(name, "two-engines") || !strcmp(name, "clock-pair"))
+        device.pairs[0] = (struct x_pair){ "both", 1, 2 };
     else if (!strcmp(name, "clock"))
         device.clocks = 1;
     else if (!strcmp(name, "paired"))
         device.pairs[0] = (struct x_pair){ "both", 1, 2 };
+    if (!strcmp(name, "two-engines"))
+        device.engines = two;
+    if (!strcmp(name, "clock-pair"))
+        device.clocks = 2;
     x_use(strcmp(name, "null") ? &device : NULL);
     return nic82540em_explore(count, words, test, words[count > 1]);
 }

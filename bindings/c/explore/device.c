@@ -4,10 +4,8 @@
 
 #define S xi_state
 
-enum { MOST_MEMORY = 1 << 24, FREE = -1, LAST = CLOCKS + X_KINDS };
+enum { MOST_MEMORY = 1 << 24 };
 const struct x_device *xi_device = &xi_nic;
-const char *xi_actions[ACTIONS];
-int xi_actors[ACTIONS];
 unsigned xi_clocks, xi_clock[CLOCKS];
 
 void x_use(const struct x_device *device)
@@ -20,20 +18,16 @@ bool xi_is_nic(void)
     return xi_device == &xi_nic;
 }
 
-bool xi_is_clock(int action)
+/* The two steps of a pair have one actor: else the search would leave something out. */
+static void check_pair(const struct x_device *one, const struct x_pair *pair)
 {
-    return action >= 0 && action < X_KINDS && xi_device->clocks >> action & 1;
-}
-
-/* Whether two steps, one directly after the other, are also a pair */
-bool xi_is_pair(int first, int second)
-{
-    for (int n = 0; n < PAIRS; n++) {
-        const struct x_pair *pair = &xi_device->pairs[n];
-        if (pair->name && (int)pair->first == first && (int)pair->second == second)
-            return true;
-    }
-    return false;
+    if (!pair->name)
+        return;
+    if (pair->first >= one->kinds || pair->second >= one->kinds)
+        xi_die("x_use: a pair of the device isn't one of its kinds of steps");
+    if (one->engines[pair->first] != one->engines[pair->second] ||
+        (one->clocks >> pair->first ^ one->clocks >> pair->second) & 1)
+        xi_die("x_use: a pair of the device has steps of two engines, or one of a clock");
 }
 
 /* Ends the program if the description of the device is wrong. */
@@ -56,45 +50,18 @@ static void check(const struct x_device *one)
     if (one->memory > MOST_MEMORY)
         xi_die("x_use: the host has more than 16 MiB of memory");
     for (int n = 0; n < PAIRS; n++)
-        if (one->pairs[n].name && (one->pairs[n].first >= one->kinds || one->pairs[n].second >= one->kinds))
-            xi_die("x_use: a pair of the device isn't one of its kinds of steps");
+        check_pair(one, &one->pairs[n]);
 }
 
-/* Deviations of two actors before one access can be exchanged. The holds come first, then the engines. */
-static void know_actors(void)
-{
-    for (unsigned n = 0; n < ACTIONS; n++)
-        xi_actors[n] = LAST;
-    for (unsigned n = 0; n < xi_device->kinds; n++)
-        xi_actors[n] = xi_is_clock((int)n) ? FREE : (int)(CLOCKS + xi_device->engines[n]);
-    for (int n = 0; n < PAIRS; n++)
-        xi_actors[PAIR + n] = xi_device->pairs[n].name ? xi_actors[xi_device->pairs[n].first] : FREE;
-    for (int n = 0; n < CLOCKS; n++)
-        xi_actors[HOLD + n] = FREE;
-    xi_actors[ARRIVAL] = xi_is_nic() ? xi_actors[NIC_RXDATA] : FREE;
-}
-
-/* Takes the names of actions, and the actors, from the device. */
+/* Takes the actions from the device. */
 void xi_know_device(void)
 {
-    static const char *const others[] = { "arrive", "irq", "late irq", "hold step", "choose" };
-    static char holds[CLOCKS][32];
-
     check(xi_device);
-    for (unsigned n = 0; n < HOLD + CLOCKS; n++)
-        xi_actions[n] = n < xi_device->kinds ? xi_device->steps[n] : " ";
-    for (int n = 0; n < PAIRS; n++)
-        if (xi_device->pairs[n].name)
-            xi_actions[PAIR + n] = xi_device->pairs[n].name;
     xi_clocks = 0;
     for (unsigned n = 0; n < xi_device->kinds; n++)
-        if (xi_is_clock((int)n)) {
-            snprintf(holds[xi_clocks], sizeof holds[0], "hold %s", xi_device->steps[n]);
-            xi_actions[HOLD + xi_clocks] = holds[xi_clocks];
+        if (xi_is_clock((int)n))
             xi_clock[xi_clocks++] = n;
-        }
-    memcpy(&xi_actions[ARRIVAL], others, sizeof others);
-    know_actors();
+    xi_know_actions();
 }
 
 struct tried {

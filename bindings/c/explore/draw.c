@@ -1,4 +1,4 @@
-/* Draws schedules, plays given ones, and makes one that fails smaller. */
+/* Draws schedules, and plays given ones. */
 #include "inside.h"
 #include <stdio.h>
 #include <stdlib.h>
@@ -109,7 +109,7 @@ static void draw_answer(bool with_holds)
     unsigned choice = B->event == CHOOSE ? xi_below((unsigned)B->address) : 0;
 
     if (choice)
-        xi_choose(choice);
+        xi_deviate(CHOICE + (int)choice - 1);
     else if (with_holds && is_step && draw() % 4 == 0)
         xi_deviate(HOLD_STEP);
 }
@@ -217,12 +217,6 @@ static bool is_here(const struct deviation *one)
     return one->round == B->round && one->access == B->access && one->sub == B->sub;
 }
 
-/* Whether the run goes on after this deviation */
-static bool is_last(const struct deviation *one)
-{
-    return one->action == IRQ || one->action == LATE_IRQ || one->action == HOLD_STEP || one->action == CHOICE;
-}
-
 /* If this deviation names another access or request than the one here, notes it. */
 static void compare_place(const struct deviation *one, struct lack *lack)
 {
@@ -237,21 +231,13 @@ static void compare_place(const struct deviation *one, struct lack *lack)
     snprintf(lack->text + size, sizeof lack->text - size, ": at this place, the test makes another access: %s", name);
 }
 
-static void play_one(const struct deviation *one)
-{
-    if (one->action == CHOICE)
-        xi_choose(one->choice);
-    else
-        xi_deviate(one->action);
-}
-
 /* Plays the default steps and the deviations of a place, those after an interrupt or an answer excepted. Returns the
  * index of the first later deviation. `lack` gets the first deviation that names another access. */
 static unsigned play_here(const struct deviation *path, unsigned at, unsigned count, struct lack *lack)
 {
     unsigned end = at;
 
-    while (end < count && is_here(&path[end]) && (end == at || !is_last(&path[end - 1])))
+    while (end < count && is_here(&path[end]) && (end == at || !xi_ends_place(path[end - 1].action)))
         end++;
     for (unsigned n = at; lack && !lack->text[0] && n < end; n++)
         compare_place(&path[n], lack);
@@ -266,7 +252,7 @@ static unsigned play_here(const struct deviation *path, unsigned at, unsigned co
     }
     for (unsigned n = at; n < end; n++)
         if (!is_hold(&path[n], 0) && !is_hold(&path[n], 1))
-            play_one(&path[n]);
+            xi_deviate(path[n].action);
     return end;
 }
 
@@ -283,74 +269,4 @@ void xi_replay(const struct deviation *path, unsigned count, bool is_new, struct
         at = play_here(path, at, count, lack);
     if (lack)
         lack->unreached = at;
-}
-
-/* Plays a schedule. If the run fails with fewer deviations than were kept, keeps these deviations. Returns whether they
- * were kept. */
-static bool keep_shorter(struct found *found, const struct deviation *path, unsigned count)
-{
-    xi_replay(path, count, false, NULL);
-    if (!S->fault || B->path_count >= found->count)
-        return false;
-    xi_keep(found);
-    return true;
-}
-
-/* Leaves out each sequence of deviations without which the schedule still fails: first halves, and in the end single
- * deviations. */
-static void leave_out(struct found *found)
-{
-    static struct deviation less[MOST_PATH];
-
-    for (unsigned part = found->count / 2 ? found->count / 2 : 1; part; part /= 2)
-        for (unsigned at = 0; at < found->count;) {
-            unsigned end = at + part < found->count ? at + part : found->count;
-            memcpy(less, found->path, at * sizeof *less);
-            memcpy(less + at, found->path + end, (found->count - end) * sizeof *less);
-            if (!keep_shorter(found, less, found->count - (end - at)))
-                at = end;
-        }
-}
-
-/* Plays two deviations as their pair, at the place of the first one or of the second one. Returns whether the shorter
- * schedule is kept. */
-static bool join(struct found *found, unsigned first, unsigned second, int pair)
-{
-    static struct deviation less[MOST_PATH];
-
-    for (int is_second = 0; is_second < 2; is_second++) {
-        unsigned gone = is_second ? first : second, kept = is_second ? second : first;
-        memcpy(less, found->path, found->count * sizeof *less);
-        less[kept].action = pair;
-        memmove(less + gone, less + gone + 1, (found->count - gone - 1) * sizeof *less);
-        if (keep_shorter(found, less, found->count - 1))
-            return true;
-    }
-    return false;
-}
-
-/* Joins a step and the next one that belongs to it to their pair, also if they are at different places. Returns whether
- * the schedule is shorter. */
-static bool join_one(struct found *found)
-{
-    for (unsigned first = 0; first < found->count; first++)
-        for (int n = 0; n < PAIRS; n++) {
-            const struct x_pair *pair = &xi_device->pairs[n];
-            unsigned second = first + 1;
-            if (!pair->name || found->path[first].action != (int)pair->first)
-                continue;
-            while (second < found->count && found->path[second].action != (int)pair->second)
-                second++;
-            if (second < found->count && join(found, first, second, PAIR + n))
-                return true;
-        }
-    return false;
-}
-
-/* Makes a schedule that fails shorter. */
-void xi_shrink(struct found *found)
-{
-    do
-        leave_out(found);
-    while (join_one(found));
 }

@@ -3,6 +3,7 @@
 #define NIC82540EM_EXPLORE_INSIDE_H
 
 #include "nic82540em_explore.h"
+#include "schedule_search.h"
 #include <signal.h>
 #include <stdio.h>
 
@@ -10,11 +11,13 @@ enum {
     PAGE = 4096, MOST_AREAS = 128, MOST_FRAMES = 256, MOST_BYTES = 1 << 17, MOST_PATH = 1024, LONGEST = 1518,
     MOST_OPTIONS = 32, MOST_ANSWERS = 16, MOST_PLACES = 100000
 };
-/* What may be done before an access or a request: steps of the device, by their kinds; pairs of them; holds of its clocks;
- * and what follows. DEFAULT is no deviation. */
+/* What may be done before an access or a request: steps of the device, by their kinds; the arrival of an offered frame;
+ * pairs of steps; holds of its clocks; and what follows. CHOICE is the answer 1 to x_choose, CHOICE + 1 the answer 2, and
+ * so on. DEFAULT is no deviation. At a place, actions are tried in the order of their numbers. */
 enum { PAIRS = 2, CLOCKS = 2 };
 enum {
-    PAIR = X_KINDS, HOLD = PAIR + PAIRS, ARRIVAL = HOLD + CLOCKS, IRQ, LATE_IRQ, HOLD_STEP, CHOICE, ACTIONS, DEFAULT = -1
+    ARRIVAL = X_KINDS, PAIR, HOLD = PAIR + PAIRS, IRQ = HOLD + CLOCKS, LATE_IRQ, HOLD_STEP, CHOICE,
+    ACTIONS = CHOICE + MOST_ANSWERS - 1, DEFAULT = -1
 };
 /* The kinds of places. LINE: the test looks at the line. INTERRUPTS_OFF to HANDLER_ON: the handler is kept out, let in,
  * removed, or given. CALL: the handler is about to cut in after an access. PAUSE: in x_settle, after a step that asserts
@@ -40,12 +43,10 @@ struct place {
 };
 
 /* A deviation, and the place before which it is played: a round, and the number of an access in it. 0 is the request
- * that begins the round. `sub` counts the places after this access that have no number of their own. `choice` is the
- * answer to x_choose. */
+ * that begins the round. `sub` counts the places after this access that have no number of their own. */
 struct deviation {
     unsigned round, access, sub;
     int action;
-    unsigned choice;
     struct place before;
 };
 
@@ -208,7 +209,6 @@ unsigned xi_possible(void);
 struct digest xi_adapter(void);
 void xi_change(void);
 bool xi_deviate(int action);
-bool xi_choose(unsigned choice);
 void xi_tick(void);
 void xi_add_to_history(uint64_t value);
 uint64_t xi_answer(uint64_t value);
@@ -237,13 +237,10 @@ size_t xi_take_frame(const struct frames *frames, unsigned number, void *into, s
 /* device.c and nic.c: the device that is searched */
 extern const struct x_device *xi_device, xi_nic;
 extern unsigned xi_clocks, xi_clock[CLOCKS]; /* the kinds of the steps that are taken by default: their number, and each */
-extern int xi_actors[ACTIONS];               /* of actions; -1: its place among others of the same place matters */
 extern uint32_t xi_outcome_of_step;          /* of the adapter's last step */
 const char *xi_nic_register(uint32_t offset);
 bool xi_is_nic(void);
 void xi_know_device(void);
-bool xi_is_clock(int action);
-bool xi_is_pair(int first, int second);
 void xi_start_device(void);
 struct digest xi_device_digest(void);
 uint8_t *xi_host(uint64_t *size);
@@ -251,6 +248,15 @@ bool xi_load(uint64_t address, void *into, size_t count);
 bool xi_store(uint64_t address, const void *bytes, size_t count);
 const char *xi_register(uint32_t offset);
 const char *xi_memory_name(uint64_t address);
+
+/* actions.c: the actions, and which of them would do something */
+extern const char *xi_actions[ACTIONS];
+extern struct schedule_action xi_table[ACTIONS];
+void xi_know_actions(void);
+bool xi_is_clock(int action);
+bool xi_ends_place(int action);
+uint64_t xi_here(bool with_holds);
+uint64_t xi_next_hold(bool with_holds);
 
 /* dead.c: what nobody uses again */
 extern bool xi_reads_dead; /* whether a run may have read any of this: then nothing is cleared */
@@ -279,7 +285,6 @@ static inline void xi_clean(void)
 }
 
 /* names.c: the text of schedules */
-extern const char *xi_actions[ACTIONS];
 extern const char *(*xi_name_here)(void); /* of the place at which the run is, if something else knows its name */
 struct place xi_place(void);
 uint32_t xi_first_of_table(uint32_t offset);
@@ -352,8 +357,10 @@ struct lack {
     unsigned unreached;
 };
 void xi_replay(const struct deviation *path, unsigned count, bool is_new, struct lack *lack);
-void xi_shrink(struct found *found);
 void xi_forget_first_round(void);
+
+/* shrink.c: smaller schedules that fail */
+void xi_shrink(struct found *found);
 
 /* words.c: what the words of the command ask for */
 enum { DRAWN = -2 };

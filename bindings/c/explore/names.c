@@ -58,8 +58,8 @@ void xi_text(char *into, size_t room, const struct deviation *one)
     xi_name(name, sizeof name, &one->before);
     if (one->sub)
         snprintf(sub, sizeof sub, "+%u", one->sub);
-    if (one->action == CHOICE)
-        snprintf(choice, sizeof choice, " %u", one->choice);
+    if (one->action >= CHOICE)
+        snprintf(choice, sizeof choice, " %d", one->action - CHOICE + 1);
     snprintf(into, room, "%u.%u%s %s%s before %s", one->round, one->access, sub, xi_actions[one->action], choice, name);
 }
 
@@ -105,35 +105,36 @@ static bool read_place(const char **at, struct deviation *into)
     return true;
 }
 
-/* Reads what is done, such as rx, late irq or choose 2. */
-static bool read_action(const char *text, struct deviation *into)
+/* Reads what is done, such as rx, late irq or choose 2. Returns what is wrong, or NULL. */
+static const char *read_action(const char *text, struct deviation *into)
 {
     size_t size = strlen(xi_actions[CHOICE]);
+    const char *number = text + size + 1;
+    unsigned answer;
 
-    into->choice = 0;
-    if (!strncmp(text, xi_actions[CHOICE], size) && text[size] == ' ') {
-        const char *number = text + size + 1;
-        into->action = CHOICE;
-        return read_number(&number, &into->choice) && !*number && into->choice;
+    if (!strncmp(text, xi_actions[CHOICE], size) && text[size] == ' ' && read_number(&number, &answer) && !*number &&
+        answer) {
+        into->action = CHOICE + (int)(answer < MOST_ANSWERS ? answer : MOST_ANSWERS) - 1;
+        return into->action < ACTIONS ? NULL : "an answer is at most 15";
     }
     for (into->action = 0; into->action < CHOICE && strcmp(text, xi_actions[into->action]);)
         into->action++;
-    return into->action < CHOICE;
+    return into->action < CHOICE ? NULL : "it has no deviation, such as rx";
 }
 
 /* Reads one deviation in a line such as 4.6 rx before read ICR. Returns what is wrong, or NULL. */
 static const char *read_deviation(char *line, struct deviation *into)
 {
     char *before = strstr(line, " before ");
-    const char *at = line;
+    const char *at = line, *wrong;
 
     if (!read_place(&at, into))
         return "it doesn't begin with a place, such as 4.6, of numbers up to 4294967295";
     if (!before)
         return "no access is named: end the line with one, such as 'before read ICR'";
     *before = 0;
-    if (before < at || !read_action(at, into))
-        return "it has no deviation, such as rx";
+    if ((wrong = read_action(before < at ? "" : at, into)) != NULL)
+        return wrong;
     into->before = (struct place){ ENDED, 0, 0, strdup(before + strlen(" before ")) };
     return NULL;
 }

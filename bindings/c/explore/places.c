@@ -120,10 +120,12 @@ void xi_tick(void)
 }
 
 /* Answers the x_choose at which the run is. Returns whether there is such an answer. */
-bool xi_choose(unsigned choice)
+static bool choose(unsigned choice)
 {
+    if (B->event != CHOOSE || choice >= B->address)
+        return false;
     S->choice = choice;
-    return xi_deviate(CHOICE);
+    return true;
 }
 
 /* Plays a deviation at this place. Returns whether it did something. */
@@ -134,7 +136,7 @@ bool xi_deviate(int action)
 
     if (B->path_count == MOST_PATH)
         xi_die("a run has more than 1,024 deviations");
-    *one = (struct deviation){ B->round, B->access, B->sub, action, S->choice, xi_place() };
+    *one = (struct deviation){ B->round, B->access, B->sub, action, xi_place() };
     is_deviation = true;
     if (action == ARRIVAL) {
         did = S->offered < S->offers.count;
@@ -150,8 +152,8 @@ bool xi_deviate(int action)
         did = S->is_put_off = B->event == CALL;
     else if (action == HOLD_STEP)
         did = S->is_held = B->event == STEP;
-    else if (action == CHOICE)
-        did = B->event == CHOOSE && S->choice && S->choice < B->address;
+    else if (action >= CHOICE)
+        did = choose((unsigned)(action - CHOICE + 1));
     else if (action < X_KINDS)
         did = xi_play((uint32_t)action) != NIC_NOTHING;
     is_deviation = false;

@@ -8,7 +8,6 @@
  * begins from nothing, and is played to its end.
  */
 #include "inside.h"
-#include "schedule_search.h"
 #include <stdio.h>
 #include <stdlib.h>
 #include <string.h>
@@ -21,7 +20,7 @@ enum { MOST_CHOICES = 1 << 19, FIRST_ROOM = 1 << 14, ENDS_APART = 16, FIRST_KNOW
  * by numbers of deviations. */
 struct extra {
     struct saved saved;
-    uint8_t actions[MOST_OPTIONS]; /* an answer to x_choose is CHOICE and this answer, less 1 */
+    uint8_t actions[MOST_OPTIONS];
     double counts[DEEPEST + 1];
 };
 
@@ -107,55 +106,6 @@ static struct schedule_key key_here(void)
 
 /* Choices of a run */
 
-/* Before one access, deviations of different actors can be exchanged, so they are tried only in the order of their
- * actors. Two steps that are a pair are tried as the pair. */
-static bool is_after(int last, int action)
-{
-    if (xi_actors[last] < 0 || xi_actors[action] < 0)
-        return true;
-    return xi_actors[last] <= xi_actors[action] && !xi_is_pair(last, action);
-}
-
-/* Whether a deviation would do something here */
-static bool is_possible(int action)
-{
-    unsigned possible = xi_possible();
-
-    if (action == IRQ)
-        return xi_may_cut_in();
-    if (action == LATE_IRQ)
-        return B->event == CALL;
-    if (B->event == CALL || B->event == PAUSE)
-        return false;
-    if (action == HOLD_STEP)
-        return has_holds && B->event == STEP && B->address < xi_device->kinds && possible >> B->address & 1;
-    if (action == ARRIVAL)
-        return S->offered < S->offers.count;
-    if (action >= PAIR && action < HOLD && !xi_device->pairs[action - PAIR].name)
-        return false;
-    if (action >= PAIR && action < HOLD)
-        return possible >> xi_device->pairs[action - PAIR].first & 1;
-    return possible >> action & 1 && (has_holds || !xi_is_clock(action));
-}
-
-/* The deviations that would do something here, and that are tried after the last one at this place. After an interrupt
- * and an answer, none is tried. Returns their number. */
-static int options_here(uint8_t *actions)
-{
-    static const int tried[] = { 0, 1, 2, 3, 4, 5, 6, 7, ARRIVAL, PAIR, PAIR + 1, IRQ, LATE_IRQ, HOLD_STEP };
-    int count = 0;
-
-    for (size_t n = 0; n < sizeof tried / sizeof *tried; n++) {
-        int action = tried[n];
-        bool is_tried = is_every ? action < PAIR || action >= HOLD : !B->last || is_after(B->last - 1, action);
-        if (is_tried && is_possible(action))
-            actions[count++] = (uint8_t)action;
-    }
-    for (unsigned answer = 1; B->event == CHOOSE && answer < B->address && answer <= MOST_ANSWERS; answer++)
-        actions[count++] = (uint8_t)(CHOICE + answer - 1);
-    return count;
-}
-
 /* Of a search by several processes: keeps the options of this one. Returns their number. */
 static int shared(uint8_t *actions, int count)
 {
@@ -171,22 +121,23 @@ static void go_on(void)
 /* Goes on up to the next choice. Returns the number of its options without the default; 0 at the end of the run. */
 static int next_choice(uint8_t *actions)
 {
-    for (;;) {
-        if (B->event == ENDED)
-            return 0;
-        for (; B->stage < xi_clocks; B->stage++) {
-            bool has_work = xi_possible() >> xi_clock[B->stage] & 1;
-            actions[0] = (uint8_t)(HOLD + B->stage);
-            if (has_work && has_holds && shared(actions, 1))
-                return 1;
-            if (has_work)
-                xi_play(xi_clock[B->stage]);
-        }
-        int count = shared(actions, options_here(actions));
+    while (B->event != ENDED) {
+        uint64_t hold = xi_next_hold(has_holds), possible = hold ? hold : xi_here(has_holds);
+        uint32_t last = (uint32_t)B->last - 1; /* 0 is SCHEDULE_NONE */
+        size_t all = schedule_search_options(xi_table, ACTIONS, possible, last, is_every, actions, MOST_OPTIONS);
+        int count;
+
+        if (all > MOST_OPTIONS)
+            xi_die("the search has an answer that is none");
+        count = shared(actions, (int)all);
         if (count)
             return count;
-        go_on();
+        if (hold)
+            xi_play(xi_clock[B->stage++]);
+        else
+            go_on();
     }
+    return 0;
 }
 
 /* Takes an option of the choice at which the run is. */
@@ -200,12 +151,11 @@ static void take(int action)
         B->stage++;
     } else if (action == DEFAULT)
         go_on();
-    else if (action >= CHOICE)
-        xi_choose((unsigned)(action - CHOICE + 1)), go_on();
-    else if (action == IRQ || action == LATE_IRQ || action == HOLD_STEP)
-        xi_deviate(action), go_on();
-    else
+    else {
         xi_deviate(action);
+        if (xi_ends_place(action))
+            go_on();
+    }
 }
 
 /* The search */

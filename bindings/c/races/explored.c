@@ -32,16 +32,11 @@ static int depth;
 static bool has_holds, finds_all;
 static size_t most_states;
 
-static int action_of(const struct deviation *one)
-{
-    return one->action == CHOICE ? CHOICE + (int)one->choice - 1 : one->action;
-}
-
 /* The number of the first deviation of the run. A run without one comes after all others. */
 static unsigned first_of(const struct deviation *path, unsigned count)
 {
     for (unsigned n = 0; count && n < MOST_FIRSTS && n < met; n++)
-        if (firsts[n].round == path->round && firsts[n].access == path->access && firsts[n].action == action_of(path))
+        if (firsts[n].round == path->round && firsts[n].access == path->access && firsts[n].action == path->action)
             return n;
     return MOST_FIRSTS;
 }
