@@ -1,5 +1,7 @@
 /* The places of a run: the lines of COMMAND that are accesses, or begin rounds. */
+#define _GNU_SOURCE
 #include "races.h"
+#include <stdlib.h>
 #include <string.h>
 
 #define B xi_book
@@ -15,6 +17,7 @@ static size_t line_size;
 static char name[MOST_NAME];
 bool xr_is_at_place;
 unsigned xr_options;
+static unsigned offers; /* how many frames COMMAND has offered */
 
 /* The place at which the run is. Of an access of a ring, the address counts from the ring's first byte, as in the name. */
 static struct place place_here(void)
@@ -37,7 +40,7 @@ void xi_begin(bool is_new)
     xr_begin_share();
     memset(&book, 0, offsetof(struct book, path));
     S->fault = NULL, S->choice = 0, S->is_held = false, S->offered = 0, S->offers.count = S->arrived.count = 0;
-    line = NULL, xr_options = 0, xi_place_here = place_here;
+    line = NULL, xr_options = offers = 0, xi_place_here = place_here;
     xi_device->reset();
     xr_begin_told();
     xr_begin_command(is_new);
@@ -71,6 +74,24 @@ static bool answers_here(void)
     return true;
 }
 
+/* Counts what the request at which the run is has done, as events of PCT: its steps, and arrivals of offered frames. */
+static void count_moves(size_t size)
+{
+    const char *text = xr_told(), *last = memrchr(text, '\n', size - 1);
+
+    last = last ? last + 1 : text;
+    if (!xr_is_at_place || memcmp(last, "OK", 2))
+        return;
+    if (B->event == OFFER)
+        offers++;
+    else if (B->event == STEP)
+        B->moves += !xi_is_clock((int)B->address) && memcmp(last, "OK nothing", 10);
+    else if (B->event == SETTLE) {
+        B->moves += (unsigned)strtoull(last + 3, NULL, 16) + offers - S->offered;
+        S->offered = offers;
+    }
+}
+
 /* Answers the line at which the run is. */
 static void answer(void)
 {
@@ -84,6 +105,7 @@ static void answer(void)
         return;
     }
     size = xr_answer(line, line_size);
+    count_moves(size);
     xi_answer_bytes((const uint8_t *)xr_told(), size), xr_add_told(xr_told(), size);
     if (xr_is_shown)
         xr_show_answer(line, line_size, xr_told(), size);
