@@ -1,5 +1,5 @@
-"""A finder of races between a driver and the modelled adapter (`tools/races`), charts of scenarios (`tools/run_chart`),
-and pages of runs (`tools/race_page`).
+"""A finder of races between a driver and the modelled adapter (`tools/races`), and charts and pages of runs
+(`tools/run_chart`).
 """
 
 from __future__ import annotations

@@ -7,6 +7,7 @@ import os
 import re
 from typing import Any, Dict, Iterable, Optional, Tuple, TypedDict, cast
 
+from finder.ends import UsageError
 from finder.explore import Window
 from finder.jobs import MOST_JOBS, processors
 from finder.schedule import ScheduleError, place_of
@@ -31,10 +32,6 @@ Options = TypedDict("Options", {
     "replay": Optional[str], "shrink": Optional[str], "shard": Tuple[int, int], "from": Optional[str], "to":
     Optional[str], "rows": str, "color": str, "window": Window, "holds": bool, "any-access": bool, "by-name": bool,
     "reached": bool, "json": bool, "apart": bool, "no-digest": bool, "all": bool})
-
-
-class UsageError(Exception):
-    """An argument is invalid, or a file that it names can't be used."""
 
 
 def arguments_of(words: Iterable[str]) -> tuple[Options, list[str]]:

@@ -1,20 +1,17 @@
 """A run as a chart: driver, registers, memory, adapter, wire and interrupt line as columns, time downwards.
 
-`chart_of` returns the rows of a chart, from which `chart` here makes a text, and svg.py a picture.
+`chart_of` returns the rows of the chart of a log, from which `chart` here makes a text, and svg.py a picture.
 """
 
 from __future__ import annotations
 
-from typing import TYPE_CHECKING, Dict, NamedTuple, Optional, Sequence, Tuple
+from typing import TYPE_CHECKING, Dict, List, NamedTuple, Optional, Sequence, Tuple
 
-from finder.names import SLOT, Access, access_of, fields_of, is_register, number_in, value_in
-from finder.rings import Ring
-from finder.talk import DEVIATION
+from finder.names import SLOT, fields_of, is_register, value_in
+from finder.slots import Slots
 
 if TYPE_CHECKING:
-    from finder.requests import LogRow, Row
-    from finder.rings import Both
-    from finder.run import Run
+    from finder.log import RunLog, Step
 
 # The most rows that are shown: before a deviation, from the deviation on, and at the end of a run. The last two
 # numbers are those of later uses of a slot, and of a run without deviations.
@@ -24,6 +21,7 @@ STAR, BAR = "*", "|"
 SHORT = 24  # the most digits of a value in memory that is shown completely
 ROOM = 5  # characters between columns that an arrow may connect: the arrow has at least three of them
 NARROW = 2
+ROUNDS = ("arrive", "offer", "step", "settle")  # requests that begin a round
 
 
 class ChartRow(NamedTuple):
@@ -36,119 +34,103 @@ class ChartRow(NamedTuple):
     is_mark: bool = False
 
 
-def bytes_in(value: int, size: int) -> str:
-    """The `size` bytes of a value in hexadecimal, in the order of memory; of more than 12 bytes, the first 8 and `..`.
-    """
-    text = value.to_bytes(size, "little").hex()
-    return text if len(text) <= SHORT else text[:SHORT - 8] + ".."
+def bytes_in(data: bytes, size: int) -> str:
+    """The bytes of an access in hexadecimal; of more than 12 bytes, the first 8 and `..`."""
+    return data.hex() if 2 * max(size, len(data)) <= SHORT else data[:SHORT // 2 - 4].hex() + ".."
 
 
-def memory_text(name: str, size: int, value: int | None) -> str:
+def memory_text(step: Step) -> str:
     """The text of an access of memory: the memory's name, and the fields if it is a descriptor. For other memory, the
-    number of bytes, and the bytes if `value` is given.
+    number of bytes, and the bytes if they are known.
     """
-    fields = fields_of(name, size, value) if value is not None else None
-    shown = f" {bytes_in(value, size)}" if value is not None and size else ""
-    return f"{name} {fields}" if fields else f"{name}, {size} bytes{':' if shown else ''}{shown}"
+    if step.data is None or not step.size:
+        told = f", from there on {step.data.hex()}" if step.data else ""
+        return f"{step.name}, {step.size} bytes" if step.size or step.data == b"" else f"{step.name} by a pointer{told}"
+    is_whole = len(step.data) == step.size
+    fields = fields_of(step.name, step.size, int.from_bytes(step.data, "little")) if is_whole else None
+    return f"{step.name} {fields}" if fields else f"{step.name}, {step.size} bytes: {bytes_in(step.data, step.size)}"
 
 
-def access_in(row: LogRow) -> tuple[Access, str, str]:
-    """The access of a row, its kind, and the name of its register or memory. The row must have an access."""
-    access = access_of(row.line[2:])
-    assert access and row.name, row.line
-    kind, _, name = row.name.partition(" ")
-    return access, kind, name
-
-
-def of_access(row: LogRow) -> ChartRow:
+def of_access(step: Step) -> ChartRow:
     """The row of an access: its place, whether the driver reads or writes, and the register or memory with its value.
     """
-    access, _, name = access_in(row)
-    is_write = access.kind == "write"
-    value = access.value if is_write else number_in(access, row.answer)
-    if is_register(name):
-        column, text = "registers", name if value is None else f"{name} {value_in(name, value)}"
+    if is_register(step.name):
+        column = "registers"
+        text = step.name if step.value is None else f"{step.name} {value_in(step.name, step.value)}"
     else:
-        column, text = "memory", memory_text(name, access.size, value)
-    cells = {"place": str(row.place), "driver": access.kind, column: text}
-    return ChartRow(cells, ("driver", column) if is_write else (column, "driver"))
+        column, text = "memory", memory_text(step)
+    cells = {"place": step.place, "driver": step.action, column: text}
+    return ChartRow(cells, ("driver", column) if step.action == "write" else (column, "driver"))
 
 
-def of_step(row: LogRow, head: str | None) -> ChartRow:
-    """The row of a step: its outcome, what it does to memory or EERD, and the head of a ring if the head has moved."""
-    _, _, kind, _, outcome = row.line.split(" ")
-    cells = {"adapter": f"{kind} {outcome}", **({"registers": head} if head else {})}
-    if kind == "eeprom":
+def of_adapter(step: Step, slot: Optional[str], head: Optional[str]) -> ChartRow:
+    """The row of a step of the adapter: its outcome, what it does to memory or EERD, and the head that it has moved."""
+    cells = {"adapter": f"{step.action} {step.outcome}", **({"registers": head} if head else {})}
+    if step.action == "eeprom":
         return ChartRow({**cells, "registers": "EERD DONE"}, ("adapter", "registers"))
-    if row.name is None:
+    if slot is None:
         return ChartRow(cells)
-    if kind == "txtake":
-        return ChartRow({**cells, "memory": f"{row.name} is fetched"}, ("memory", "adapter"))
-    text = {"rxdata": f"buffer of {row.name} is written", "rxdone": f"{row.name} is written back",
-            "txput": f"{row.name} is written back if RS is set"}[kind]
+    if step.action == "txtake":
+        return ChartRow({**cells, "memory": f"{slot} is fetched"}, ("memory", "adapter"))
+    text = {"rxdata": f"buffer of {slot} is written", "rxdone": f"{slot} is written back",
+            "txput": f"{slot} is written back if RS is set"}[step.action]
     return ChartRow({**cells, "memory": text}, ("adapter", "memory"))
 
 
-def frame_text(digits: str) -> str:
+def frame_text(step: Step) -> str:
     """The text of a frame: its number of bytes, and its last two bytes."""
-    return f"{len(digits) // 2} bytes, ..{digits[-4:]}"
+    return f"{step.size} bytes" + (f", ..{step.data[-2:].hex()}" if step.data else "")
 
 
-def chart_row_of(row: Row, head: str | None) -> ChartRow | None:
-    """The row of a chart for a row of the log, or None if there is nothing to show."""
-    if row.place:
-        return of_access(row)
-    if row.line.startswith("# choose "):
-        return ChartRow({"place": str(row.begins), "driver": f"{row.line[2:]}: {int(row.answer or '0', 0)}"})
-    shown = of_event(row, head)
-    if row.begins:
-        request = {"place": str(row.begins), "driver": row.line.split(" ")[1]}
-        return shown._replace(cells={**shown.cells, **request}) if shown else ChartRow(request)
-    return shown
+def chart_row_of(step: Step, slot: Optional[str], head: Optional[str]) -> ChartRow:
+    """The row of a step in a chart. Of a request, its place is in the row."""
+    if step.is_access():
+        return of_access(step)
+    if step.action == "choose":
+        limit = step.outcome.removeprefix("below ")
+        return ChartRow({"place": step.place, "driver": f"choose {limit}: {step.value or 0}"})
+    if step.action in ("raise", "lower"):
+        return ChartRow({"adapter": f"{step.action}s the line"})
+    if step.action == "fault":
+        return ChartRow({"adapter": f"fault {step.name} {step.outcome}"})
+    if step.action == "frame":
+        return ChartRow({"wire": frame_text(step)}, ("adapter", "wire"))
+    if step.action == "mark":
+        return ChartRow({"driver": step.outcome}, is_mark=True)
+    if step.action == "arrive":
+        named = {"place": step.place, "driver": step.action} if step.place else {}
+        return ChartRow({**named, "adapter": step.outcome, "wire": frame_text(step)}, ("wire", "adapter"))
+    if step.action == "request":
+        return ChartRow({"place": step.place, "driver": step.outcome})
+    return of_adapter(step, slot, head)
 
 
-def of_event(row: Row, head: str | None) -> ChartRow | None:
-    """The row of a chart for a row of the log that is neither an access nor a `choose`. None if there is nothing to
-    show.
+def begins_round(step: Step) -> bool:
+    """Whether a step is a request that begins a round."""
+    return bool(step.place) and (step.action == "arrive" or step.outcome in ROUNDS and step.action == "request")
+
+
+def unnamed(row: ChartRow) -> Optional[ChartRow]:
+    """The row of a request that begins a round, without the name of the request; None if nothing remains."""
+    cells = {column: text for column, text in row.cells.items() if column not in ("place", "driver")}
+    return row._replace(cells=cells) if cells else None
+
+
+def rows_of(run: RunLog) -> List[ChartRow]:
+    """All rows of a chart, with stars and with the bar of the interrupt line. A request that begins a round is named
+    only after a deviation, whose place it is.
     """
-    words = row.line.split(" ")
-    if words[0] == "IRQ":
-        return ChartRow({"adapter": "raises the line" if words[1] == "raise" else "lowers the line"})
-    if words[0] == "fault":
-        return ChartRow({"adapter": f"fault {words[1]}[{words[2]}] {' '.join(words[3:])}"})
-    if words[0] == "frame":
-        return ChartRow({"wire": frame_text(words[1])}, ("adapter", "wire"))
-    if words[1] == "mark":
-        return ChartRow({"driver": " ".join(words[2:])}, is_mark=True)
-    if words[1] == "step":
-        return None if words[4] == "nothing" else of_step(row, head)
-    if words[1] == "arrive":
-        return ChartRow({"adapter": row.answer or "", "wire": frame_text(words[2])}, ("wire", "adapter"))
-    return None if row.begins else ChartRow({"adapter": row.line[2:]})
-
-
-def moved_head(row: LogRow, before: Both) -> str | None:
-    """The head that the step of a row moves, such as `RDH 0x2`. None if the row is no step, or no head moves. `before`
-    are both rings before the row.
-    """
-    if not row.line.startswith("# step "):
-        return None
-    both = zip(("RDH", "TDH"), row.rings, before)
-    return next((f"{name} {now.head:#x}" for name, now, was in both if now.head != was.head), None)
-
-
-def rows_of(run: Run) -> list[ChartRow]:
-    """All rows of a chart, with stars and with the bar of the interrupt line."""
-    rows, is_up, before = [], False, (Ring(), Ring())
-    for row in run.rows:
-        shown, before = chart_row_of(row, moved_head(row, before)), row.rings
-        if shown is None:
-            continue
-        if row.line.startswith("IRQ"):
-            is_up = row.line.startswith("IRQ raise")
-        is_deviation = row.owner == DEVIATION and not row.line.startswith(("IRQ", "frame", "fault"))
-        marks = {"": STAR if is_deviation else "", "line": BAR if is_up else ""}
-        rows.append(shown._replace(cells={**shown.cells, **marks}))
+    rows, slots, is_up, has_star = [], Slots(), False, False
+    for step in run.steps:
+        shown: Optional[ChartRow] = chart_row_of(step, *slots.play(step))
+        if step.action in ("raise", "lower"):
+            is_up = step.action == "raise"
+        if shown and begins_round(step) and not has_star:
+            shown = unnamed(shown)
+        has_star = step.is_deviation or has_star and not step.place
+        if shown:
+            marks = {"": STAR if step.is_deviation else "", "line": BAR if is_up else ""}
+            rows.append(shown._replace(cells={**shown.cells, **marks}))
     return rows
 
 
@@ -197,13 +179,13 @@ def cut(rows: list[ChartRow]) -> list[ChartRow]:
     return shown
 
 
-def chart_of(run: Run, is_whole: bool = False) -> list[ChartRow]:
+def chart_of(run: RunLog, is_whole: bool = False) -> list[ChartRow]:
     """The rows that a run's chart shows, without the heading: all of them, or those near deviations and at the end."""
     rows = rows_of(run)
     return rows if is_whole else cut(rows)
 
 
-def end_of(run: Run) -> str:
+def end_of(run: RunLog) -> str:
     """The line after the rows of a chart: the run's fault, or that the test passes."""
     return run.fault or "The test passes."
 
@@ -254,6 +236,6 @@ def text_chart(rows: list[ChartRow], end: str, columns: Sequence[str] = COLUMNS)
     return "".join(f"{line}\n" for line in [*lines_of(rows, columns), f"   {end}"])
 
 
-def chart(run: Run, is_whole: bool = False) -> str:
+def chart(run: RunLog, is_whole: bool = False) -> str:
     """The text of a run's chart."""
     return text_chart(chart_of(run, is_whole), end_of(run))

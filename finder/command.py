@@ -26,6 +26,7 @@ from finder.server import ServerEnded
 from finder.shrink import Shrinker
 from finder.store import store, store_page
 from finder.target import CannotRun, Target
+from finder.page.from_finder import of_run
 from finder.terminal import text_of_run
 from finder.usage import HELP
 
@@ -303,7 +304,7 @@ class Finder:
         return shrinker.shrink(search.found), True  # `shrink` moves or lowers the deviations here, but drops none
 
     def chart(self, run: Run) -> str:
-        return text_of_run(run, self.given["rows"] == "all", self.given["color"])
+        return text_of_run(of_run(run, ""), self.given["rows"] == "all", self.given["color"])
 
     def show(self, run: Run) -> None:
         """Prints a run's schedule, the end of its log, and its chart, if it has any; and stores the run for --out."""
@@ -322,7 +323,7 @@ class Finder:
 
     def text_of(self, run: Run) -> str:
         """The schedule of a run, with comments."""
-        return text_of(self.shown(run), self.target.options, [" ".join(self.target.command), end_of(run)])
+        return text_of(self.shown(run), self.target.options, [" ".join(self.target.command), end_of(of_run(run, ""))])
 
     def store(self, run: Run, text: str) -> bool:
         """Stores a run, if --out or --html is given. Returns False, after a message, if the run can't be stored."""

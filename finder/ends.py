@@ -25,6 +25,10 @@ class Ended(BaseException):
         self.status = BY_SIGNAL + number
 
 
+class UsageError(Exception):
+    """An argument is invalid, or a file that it names can't be used."""
+
+
 class Unprinted(Exception):
     """Standard output can't be written."""
 

@@ -8,7 +8,6 @@ from typing import TYPE_CHECKING, Optional
 
 from finder.chart import chart
 from finder.page.from_finder import of_run
-from finder.page.log import Log
 from finder.page.write import page
 from finder.svg import svg
 from finder.vcd import vcd
@@ -49,8 +48,9 @@ def check_access(path: str) -> None:
 
 def texts_of(run: Run, schedule: str, is_whole: bool) -> dict[str, str]:
     """The texts of the files in the folder of a run, by their names."""
-    return {"schedule.txt": schedule, "log.txt": log_of(run), "chart.txt": chart(run, is_whole),
-            "chart.svg": svg(run, is_whole), "run.vcd": vcd(run)}
+    log = of_run(run, "")
+    return {"schedule.txt": schedule, "log.txt": log_of(run), "chart.txt": chart(log, is_whole),
+            "chart.svg": svg(log, is_whole), "run.vcd": vcd(log)}
 
 
 def store(path: str, run: Run, schedule: str, is_whole: bool) -> None:
@@ -71,5 +71,4 @@ def write(path: str, text: str) -> None:
 
 def store_page(path: str, command: str, run: Run, other: Optional[Run]) -> None:
     """Stores the page of a run, which compares it with another run if there is one. Raises OSError."""
-    log = Log(command, of_run(run, "the schedule"), of_run(other, "without deviations") if other else None)
-    write(path, page(log))
+    write(path, page([of_run(one, command) for one in (run, other) if one]))

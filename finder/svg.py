@@ -9,7 +9,7 @@ from typing import TYPE_CHECKING, Iterator, Sequence
 from finder.chart import BAR, COLUMNS, ChartRow, arrow_ends, chart_of, end_of, layout
 
 if TYPE_CHECKING:
-    from finder.run import Run
+    from finder.log import RunLog
 
 # Sizes in pixels. A character of a monospace font of size FONT is at most CHAR wide.
 FONT, CHAR, HEIGHT, MARGIN, TIP, BAR_WIDTH = 13, 8, 20, 12, 5, 4
@@ -99,6 +99,6 @@ def picture(rows: list[ChartRow], end: str, columns: Sequence[str] = COLUMNS) ->
     return "".join(f"{part}\n" for part in parts)
 
 
-def svg(run: Run, is_whole: bool = False) -> str:
+def svg(run: RunLog, is_whole: bool = False) -> str:
     """The chart of a run as an SVG document: all rows, or those near deviations and at the end."""
     return picture(chart_of(run, is_whole), end_of(run)[:LONGEST])

@@ -12,7 +12,7 @@ from finder.chart import BAR, COLUMNS, STAR, chart_of, end_of, lines_of
 
 if TYPE_CHECKING:
     from finder.chart import ChartRow
-    from finder.run import Run
+    from finder.log import RunLog
 
 WHEN = ("auto", "always", "never")
 LEAST_WIDTH = 40  # a narrower terminal gets lines of this width
@@ -102,10 +102,10 @@ def chart_on(look: Look, rows: list[ChartRow], end: str, is_right: bool, columns
     return "".join(f"{line}\n" for line in [heading, *(line for its in shown for line in its), *told])
 
 
-def text_of_run(run: Run, has_all_rows: bool, when: str) -> str:
+def text_of_run(run: RunLog, has_all_rows: bool, when: str) -> str:
     """The text of a run's chart on standard output. For a run without rows, a line reports this, and another one how
     the run ended.
     """
-    if not run.rows:
+    if not run.steps:
         return NOTHING_PLAYED + f"   {end_of(run)}\n"
     return chart_on(look_of(when), chart_of(run, has_all_rows), end_of(run), not run.fault)

@@ -10,18 +10,14 @@ from __future__ import annotations
 import re
 from typing import TYPE_CHECKING, Optional, Sequence
 
-from finder.chart import access_in
-from finder.names import REGISTERS, is_register, number_in
-from finder.talk import DEVIATION
-from finder.reached import ALL
-from finder.schedule import HOLDS
+from finder.names import FATES, OF_STEPS, REGISTERS, is_register
+from finder.slots import HEADS, Slots
 
 if TYPE_CHECKING:
-    from finder.requests import Row
-    from finder.run import Run
+    from finder.log import RunLog, Step
 
 UNITS = 16
-HEADS = ("RDH", "RDT", "TDH", "TDT")
+HOLDS = ("hold eeprom", "hold phy")
 ACCESSES = ("read_register", "write_register", "read_memory", "write_memory")
 ORDER = {name: at for at, name in enumerate(REGISTERS.values())}
 FIRST, LAST = 33, 126  # the characters of identifier codes
@@ -45,11 +41,11 @@ def identifier(name: str) -> str:
     return re.sub(r"\W+", "_", name, flags=re.ASCII).strip("_")
 
 
-def registers_of(rows: Sequence[Row]) -> list[str]:
+def registers_of(steps: Sequence[Step]) -> list[str]:
     """The registers that a run accesses, except for heads and tails: named ones in the order of their offsets, then
     others.
     """
-    found = {name for row in rows if row.place and is_register(name := access_in(row)[2])}
+    found = {step.name for step in steps if step.is_access() and is_register(step.name)}
     return sorted(found - {*HEADS}, key=lambda name: (ORDER.get(name, len(ORDER)), name))
 
 
@@ -58,26 +54,24 @@ def scope_of(name: str) -> str:
     return name.partition("[")[0] if name in ORDER and "[" in name else "registers"
 
 
-def event_of(row: Row) -> str | None:
-    """The event of a step with another outcome than `nothing`, of a hold or of an arrival; None for other rows."""
-    words = row.line.split(" ")
-    if words[:2] == ["#", "step"]:
-        return None if words[4] == "nothing" else identifier(f"{words[2]} {words[4]}")
-    if words[:2] == ["#", "arrive"]:
-        return identifier(f"arrive {row.answer}")
-    return identifier(row.line) if row.line[2:] in HOLDS else None
+def event_of(step: Step) -> str | None:
+    """The event of a step of the adapter, of a hold, of an arrival, or of a handler; None for other steps."""
+    if step.action in (*OF_STEPS, "arrive", "hold"):
+        return identifier(f"{step.action} {step.outcome}")
+    return identifier(step.outcome) if step.action == "mark" else None
 
 
-def variables_of(rows: Sequence[Row]) -> dict[str, dict[str, str]]:
+def variables_of(steps: Sequence[Step]) -> dict[str, dict[str, str]]:
     """The variables of a dump by scope, each with its name and its kind."""
-    events = [*ALL["steps"], *HOLDS, *(f"arrive {fate}" for fate in ALL["fates"]), "frame", "deviation"]
-    seen = filter(None, map(event_of, rows))
+    taken = (f"{kind} {outcome}" for kind, outcomes in OF_STEPS.items() for outcome in outcomes)
+    events = [*taken, *HOLDS, *(f"arrive {fate}" for fate in FATES), "frame", "deviation"]
+    seen = filter(None, map(event_of, steps))
     scopes = {
         "adapter": {"irq": "line", **dict.fromkeys((*map(identifier, events), *seen), "event")},
         "rings": dict.fromkeys(HEADS, "head"),
         "driver": {"round": "number", "access": "number", **dict.fromkeys(ACCESSES, "event")},
     }
-    for name in registers_of(rows):
+    for name in registers_of(steps):
         scopes.setdefault(scope_of(name), {})[identifier(name)] = "register"
     return scopes
 
@@ -133,51 +127,47 @@ class Dump:
         self.lines.append(line)
 
 
-def dump_access(dump: Dump, row: Row) -> None:
-    """Adds an access, and the value of its register, unless this is a head or a tail: `dump_row` adds these."""
+def dump_access(dump: Dump, step: Step) -> None:
+    """Adds an access, and the value of its register, unless this is a head or a tail: `dump_step` adds these."""
     dump.now = (dump.now // UNITS + 1) * UNITS
-    access, kind, name = access_in(row)
-    dump.happen(f"{kind}_{'register' if is_register(name) else 'memory'}")
-    if row.place:
-        dump.change("round", row.place.round)
-        dump.change("access", row.place.access)
-    if not is_register(name):
-        return
-    value = access.value if kind == "write" else number_in(access, row.answer)
-    if name not in HEADS and value is not None:
-        dump.change(identifier(name), value)
+    dump.happen(f"{step.action}_{'register' if is_register(step.name) else 'memory'}")
+    number, _, access = step.place.partition("+")[0].partition(".")
+    dump.change("round", int(number))
+    dump.change("access", int(access))
+    if is_register(step.name) and step.name not in HEADS and step.value is not None:
+        dump.change(identifier(step.name), step.value)
 
 
-def dump_row(dump: Dump, row: Row) -> None:
-    """Adds a row of the log. A step with the outcome `nothing` takes no time."""
-    words, event = row.line.split(" "), event_of(row)
-    if row.place:
-        dump_access(dump, row)
-    elif words[0] == "IRQ":
-        dump.change("irq", int(words[1] == "raise"))
-    elif words[0] == "frame":
+def dump_step(dump: Dump, step: Step, slots: Slots) -> None:
+    """Adds a step of the log."""
+    event = event_of(step)
+    slots.play(step)
+    if step.is_access():
+        dump_access(dump, step)
+    elif step.action in ("raise", "lower"):
+        dump.change("irq", int(step.action == "raise"))
+    elif step.action == "frame":
         dump.happen("frame")
     elif event:
         dump.now += 1
         dump.happen(event)
-        if row.owner == DEVIATION:
+        if step.is_deviation:
             dump.happen("deviation")
-    receive, transmit = row.rings
-    for name, value in zip(HEADS, (receive.head, receive.tail, transmit.head, transmit.tail)):
+    for name, value in zip(HEADS, slots.heads()):
         dump.change(name, value)
 
 
-def comment_of(run: Run) -> str:
+def comment_of(run: RunLog) -> str:
     """The dump's comment on the run: printable ASCII, without the character that begins a keyword."""
     text = run.fault or "the test passes"
     return "".join(letter if " " <= letter <= "~" and letter != "$" else "?" for letter in text)
 
 
-def vcd(run: Run) -> str:
+def vcd(run: RunLog) -> str:
     """The dump of a run."""
-    dump = Dump(variables_of(run.rows), comment_of(run))
-    for row in run.rows:
-        dump_row(dump, row)
+    dump, slots = Dump(variables_of(run.steps), comment_of(run)), Slots()
+    for step in run.steps:
+        dump_step(dump, step, slots)
     dump.now += 1
     dump.lines.append(f"#{dump.now}")
     return "".join(f"{line}\n" for line in dump.lines)

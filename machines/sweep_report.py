@@ -42,25 +42,26 @@ def around(places: list[int], at: int) -> list[int]:
 def steps_of_lost(rows: list[Row], lost: list[str]) -> list[int]:
     """The rows that moved the first lost reply that was stored. They are its arrival, the steps that wrote it to
     memory, and the stores of its buffer's address before and after."""
-    stored = [at for at, row in enumerate(rows) if row.line == "# arrive" and (row.answer or "").startswith("stored")]
-    arrival = next((at for at in stored if rows[at].name in lost), None)
-    all_moved = [at for at, row in enumerate(rows) if row.line == "# step rxdata -> moved"]
+    steps = [row.step for row in rows]
+    stored = [at for at, step in enumerate(steps) if (step.action, step.outcome) == ("arrive", "stored")]
+    arrival = next((at for at in stored if steps[at].name in lost), None)
+    all_moved = [at for at, step in enumerate(steps) if (step.action, step.outcome) == ("rxdata", "moved")]
     if arrival is None or stored.index(arrival) >= len(all_moved):
         return []
     moved = all_moved[stored.index(arrival)]
-    done = [at for at, row in enumerate(rows) if row.line.startswith("# step rxdone") and at > moved][:1]
-    stores = [at for at, row in enumerate(rows) if row.name == f"write {rows[moved].name}"]
+    done = [at for at, step in enumerate(steps) if step.action == "rxdone" and at > moved][:1]
+    stores = [at for at, step in enumerate(steps) if step.action == "write" and step.name == steps[moved].name]
     return [arrival, moved, *done, *around(stores, moved)]
 
 
 def steps_of_wrong(rows: list[Row]) -> list[int]:
     """The rows that moved the first wrong frame to the wire."""
-    sent = [at for at, row in enumerate(rows) if row.line == "frame"]
-    wrong = next((number for number, at in enumerate(sent) if rows[at].name == "wrong frame"), None)
+    sent = [at for at, row in enumerate(rows) if row.step.action == "frame"]
+    wrong = next((number for number, at in enumerate(sent) if rows[at].step.name == "wrong frame"), None)
     if wrong is None:
         return []
-    steps = [[at for at, row in enumerate(rows) if row.line == f"# step {step}"]
-             for step in ("txtake -> took", "txput -> put")]
+    steps = [[at for at, row in enumerate(rows) if (row.step.action, row.step.outcome) == step]
+             for step in (("txtake", "took"), ("txput", "put"))]
     return [sent[wrong], *(found[wrong] for found in steps)]
 
 
@@ -68,7 +69,7 @@ def stars_of(trace: Trace) -> set[int]:
     """The rows that a chart is about: those of a wrong frame or of the lost reply, or the last steps that were
     drawn.
     """
-    drawn = [at for at, row in enumerate(trace.rows) if row.drawn]
+    drawn = [at for at, row in enumerate(trace.rows) if row.step.is_deviation]
     return set(steps_of_wrong(trace.rows) or steps_of_lost(trace.rows, trace.lost) or drawn[-LAST:])
 
 

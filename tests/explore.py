@@ -21,6 +21,7 @@ from explorer_devices import check_devices
 from explorer_draws import by_priorities
 from explorer_enumerated import Enumerated, build_enumerator, enumerated
 from explorer_lab import course
+from explorer_logs import check_logs, check_refused
 from explorer_pages import check_html, check_lab, check_pages, check_races
 from explorer_races import calls, endless, hooks, kept, passes, schedules, untold
 from explorer_results import RECEIVES, check_results
@@ -317,13 +318,10 @@ def logs(bench):
               "         the line is lowered\n")
     bench.check("logs: late", (status, wanted in out, out.splitlines()[-1], errors),
                 (FOUND, True, "frame 1 was never received", ""))
-    wanted = (USAGE, "",
-              "explore: --log: it needs --replay, and goes without --json\nFor more information, try '--help'.\n")
+    wanted = USAGE, "", "explore: --log: it needs --replay\nFor more information, try '--help'.\n"
     bench.check("logs: without a schedule", bench.run(bench.stages, "late", "--log"), wanted)
-    finder = [sys.executable, "-S", os.path.join(TOP, "tools", "races"), "--server", bench.program, "--replay", late]
-    shown = bench.run(*finder, "--rows", "all", "--", bench.stages, "late", "--pipe")[1].splitlines()
-    places = [line.split()[0] for line in shown if re.match("   [0-9]+[.][0-9]+ ", line)]
-    bench.check("logs: all rows of the chart", (places[0], places[-1] > "4", ".." in places), ("0.1", True, False))
+    check_logs(bench, bench.stages)
+    check_refused(bench)
 
 
 def ends(bench):

@@ -1,19 +1,16 @@
-"""Tests pages from the explorer's log: tools/race_page plays a test, and the page's reason is the race of its driver.
+"""Tests pages of the explorer: the reason on the page of a run is the race of its driver.
 
 The same test, played by the finder through pipes, leads to the same reasons, and to the same states of rings.
 """
 
 import os
 import re
-import sys
 
-from finder.page.from_explorer import of_text
-from finder.page.log import log_in
-from finder.page.write import template
-from harness import TOP, text_of
+from finder.log import runs_in
+from finder.page.write import shortened, template
+from harness import text_of
 from page_script import logic
 
-PAGE = [sys.executable, "-S", "-E", os.path.join(TOP, "tools", "race_page")]
 # For each driver of stages.c, a schedule with one deviation that fails, and the heading of its race in docs/RACES.md.
 # `--holds` isn't needed to play one.
 CASES = [("late", "4.6 rxdone before read ICR", "A frame is finished while the handler runs"),
@@ -75,42 +72,42 @@ int main(int count, char **words) { return nic82540em_explore(count, words, test
 """
 
 
+def run_of(bench, command, schedule, is_checked=True):
+    """The run of a schedule by --log --json."""
+    bench.source("page.txt", schedule)
+    status, out, errors = bench.run(*command, "--replay", bench.path("page.txt"), "--log", "--json")
+    if is_checked:
+        bench.check(f"pages: {command[1:]}: {schedule}", errors, "")
+    return runs_in(out)[0]
+
+
 def play(bench, command, schedule, name):
-    """The log that tools/race_page stores of a test with this schedule, after the checks of its page and its states."""
-    bench.put("page.txt", f"{schedule}\n".encode())
-    status, out, errors = bench.run(*PAGE, "--html", "page.html", "--json", "page.json", "--replay", "page.txt", "--",
-                                    *command)
-    bench.check(f"pages: {name}", (status, out, errors), (0, "", ""))
-    log = log_in(bench.get("page.json").decode())
-    bench.check(f"pages: {name}: its fault", (log.run.fault is not None, log.other.fault if log.other else None),
-                (True, None))
-    for run in filter(None, (log.run, log.other)):
+    """The runs on the page of a test with this schedule, after the checks of their states."""
+    bench.source("page.txt", f"{schedule}\n")
+    status, _, errors = bench.run(*command, "--replay", bench.path("page.txt"), "--html", bench.path("page.html"))
+    runs = runs_of_page(bench.get("page.html").decode())
+    bench.check(f"pages: {name}", (status, errors, [run.fault is None for run in runs]), (1, "", [False, True]))
+    for run in runs:
         bench.check(f"pages: {name}: states", logic().wrong(run), [])
-    return log
+    return runs
 
 
 def check_pages(bench, stages):
     """The pages of CASES, of a driver without a bug, and of the lab."""
     for name, schedule, heading in CASES:
-        log = play(bench, [stages, name], schedule, name)
-        found = logic().reasons(log.run, log.other)
+        run, other = play(bench, [stages, name], schedule, name)
+        found = logic().reasons(run, other)
         bench.check(f"pages: {name}: why", (found[0]["section"] if found else None), heading)
         bench.check(f"pages: {name}: RACES has it", f"\n## {heading}\n" in text_of("docs", "RACES.md"), True)
-        bench.check(f"pages: {name}: the deviation", sum(step.is_deviation for step in log.run.steps),
-                    int("hold" not in schedule))
+        bench.check(f"pages: {name}: the deviation", sum(step.is_deviation for step in run.steps), 1)
     for name in ("right", "cuts:right", "offers:pool"):
-        status, out, errors = bench.run(stages, name, "--replay", os.devnull, "--log")
-        bench.put("right.log", out.encode())
-        bench.check(f"pages: {name}", (status, errors), (0, ""))
-        ran = bench.run(*PAGE, "--json", "right.json", "right.log")
-        bench.check(f"pages: {name}: its log", ran, (0, "", ""))
-        found = logic().kinds(log_in(bench.get("right.json").decode()).run)
-        bench.check(f"pages: {name}: no rule finds anything", found, [])
+        run = run_of(bench, [stages, name], "")
+        bench.check(f"pages: {name}: no rule finds anything", (run.fault, logic().kinds(run)), (None, []))
 
 
-def log_of_page(text):
-    """The log in a page."""
-    return log_in(re.search('<script type="application/json" id=data>(.*?)</script>', text, re.S)[1])
+def runs_of_page(text):
+    """The runs whose logs are in a page."""
+    return runs_in(re.search('<script type="application/json" id=data>(.*?)</script>', text, re.S)[1])
 
 
 def places_of(run):
@@ -119,26 +116,25 @@ def places_of(run):
         if step.place and step.is_access():
             yield f"{step.place} {{}} before {step.action} {step.name}"
         elif step.place:
-            yield f"{step.place} {{}} before {'arrive' if step.action == 'arrive' else step.outcome.split(':')[0]}"
+            name = step.outcome.split(":")[0] if step.action == "request" else step.action
+            yield f"{step.place} {{}} before {name}"
 
 
 def failing(bench, command, lines):
-    """The logs of the schedules of one line that fail."""
+    """The runs of the schedules of one line that fail."""
     for line in lines:
-        bench.put("one.txt", f"{line}\n".encode())
-        status, out, errors = bench.run(*command, "--replay", bench.path("one.txt"), "--log")
-        if errors or "at this place, the test makes" in out:
-            bench.check(f"pages: {command[1:]}: {line}", (out, errors), ("", ""))
-        elif status:
-            yield of_text(out, "one", (line,))
+        run = run_of(bench, command, f"{line}\n")
+        is_other = (run.fault or "").startswith("at this place, the test makes")
+        bench.check(f"pages: {command[1:]}: {line}", is_other, False)
+        if run.fault:
+            yield run
 
 
 def check_races(bench, program):
     """Each schedule of one deviation that fails has the reason of its race. Drivers without a race have none."""
     for name, (heading, is_alone) in RACES.items():
-        status, out, _ = bench.run(program, name, "--replay", os.devnull, "--log")
-        run = of_text(out, "without deviations")
-        bench.check(f"pages: {name}: without deviations", (status, logic().wrong(run)), (int(is_alone), []))
+        run = run_of(bench, [program, name], "", False)
+        bench.check(f"pages: {name}: without deviations", (run.fault is not None, logic().wrong(run)), (is_alone, []))
         lines = [line.format(step) for line in list(places_of(run))[:FIRST] for step in STEPS]
         found = [run] if is_alone else list(failing(bench, [program, name], lines))
         bench.holds(f"pages: {name}: some schedules fail", bool(found))
@@ -148,20 +144,13 @@ def check_races(bench, program):
             first = {it["section"] for it in told if not it.get("isLater")}
             bench.check(f"pages: {name}: {one.schedule}", (wrong, first), (([], []), {heading}))
     for name in ("right", "lap-right", "kept-right", "nested-right"):
-        run = of_text(bench.run(program, name, "--replay", os.devnull, "--log")[1], "without deviations")
+        run = run_of(bench, [program, name], "")
         bench.check(f"pages: {name}: no rule finds anything", (run.fault, logic().kinds(run)), (None, []))
 
 
-def plain(step):
-    """A step without what only the explorer's page has: the frames that arrive, and bytes after the first 16."""
-    is_frame = step.action == "arrive"
-    data = None if is_frame or step.data is None else step.data[:16]
-    return step._replace(data=data, size=0 if is_frame else step.size)
-
-
 def check_html(bench, program):
-    """With --html, the explorer stores the page that tools/race_page makes of its log, after a search and a replay.
-    Without a run that fails, it stores none. A run that ends by a signal has a page, too.
+    """With --html, the explorer stores a page of the log, after a search and a replay. Without a run that fails, it
+    stores none. A run that ends by a signal has a page, too.
     """
     for name in ("nested", "buffer", "lap", "part"):
         status, out, errors = bench.run(program, name, "--out", bench.path("out"), "--html", bench.path("found.html"))
@@ -171,22 +160,16 @@ def check_html(bench, program):
         bench.check(f"pages: --html, {name}, the replay", (status, errors), (1, ""))
         text = bench.get("found.html").decode()
         bench.check(f"pages: --html, {name}: the same page", bench.get("again.html").decode() == text, True)
-        log = log_of_page(text)
-        bench.run(*PAGE, "--json", bench.path("page.json"), "--replay", bench.path("out"), "--", program, name)
-        wanted = log_in(bench.get("page.json").decode())
-        pairs = [(log.run, wanted.run), *([(log.other, wanted.other)] if wanted.other else [])]
-        for got, run in pairs:
-            bench.check(f"pages: --html, {name}, {got.name}: steps", list(map(plain, got.steps)),
-                        list(map(plain, run.steps)))
-            bench.check(f"pages: --html, {name}, {got.name}", got._replace(steps=()), run._replace(steps=()))
-            bench.check(f"pages: --html, {name}, {got.name}: states", logic().wrong(got), [])
-        bench.check(f"pages: --html, {name}: runs", (log.other is None, log.command),
-                    (wanted.other is None, f"{program} {name}"))
+        runs = runs_of_page(text)
+        wanted = [run_of(bench, [program, name], schedule, False)
+                  for schedule in (bench.get("out").decode(), "")[:1 + bool(runs[0].schedule)]]
+        bench.check(f"pages: --html, {name}: the logs", runs, [*map(shortened, wanted)])
+        bench.check(f"pages: --html, {name}: states", [*map(logic().wrong, runs)], [[]] * len(runs))
         head, middle, end = template()
         bench.check(f"pages: --html, {name}: the template",
-                    (text.startswith(f"{head}{program} {name}: {log.run.fault}".replace("'", "&#x27;")), middle in text,
+                    (text.startswith(f"{head}{program} {name}: {runs[0].fault}".replace("'", "&#x27;")), middle in text,
                      text.endswith(end)), (True, True, True))
-    lengths = {step.size for step in log.run.steps if step.action == "arrive"}
+    lengths = {step.size for step in runs[0].steps if step.action == "arrive"}
     bench.check("pages: --html: sizes of frames", lengths, {300})
     path = bench.path("none.html")
     for words, wanted in [(("right", "--explore", "1", "--html", path), (0, "")),
@@ -201,8 +184,8 @@ def check_html(bench, program):
     bench.check("pages: --html with --json", got, (1, 1, True))
     ends = bench.build("ends", bench.source("ends.c", ABORTS))
     status, _, errors = bench.run(ends, "--html", path)
-    log = log_of_page(bench.get("none.html").decode())
-    bench.check("pages: --html: a run that ends by a signal", (status, errors, log.run.fault, log.run.steps[-1].name),
+    run = runs_of_page(bench.get("none.html").decode())[0]
+    bench.check("pages: --html: a run that ends by a signal", (status, errors, run.fault, run.steps[-1].name),
                 (1, "", "ended by SIGABRT", "ICR"))
 
 
@@ -213,8 +196,7 @@ def check_lab(bench, grade, library):
         env = {"CFLAGS": f"-DWRONG={number}", "HTML": bench.path("lab.html")}
         status, out, errors = bench.execute(grade, library, solution, env=env, limit=600)
         bench.check(f"pages: lab {number}", (status, "fail: " in out, errors), (1, True, ""))
-        log = log_of_page(bench.get("lab.html").decode())
-        found = logic().reasons(log.run, log.other)
+        found = logic().reasons(*runs_of_page(bench.get("lab.html").decode())[:2])
         bench.check(f"pages: lab {number}: why", found[0]["section"] if found else None, heading)
         bench.remove("lab.html")
     status, _, errors = bench.execute(grade, library, solution, env={"HTML": bench.path("lab.html")}, limit=600)

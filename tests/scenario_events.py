@@ -248,9 +248,10 @@ def where_frames_are(bench):
     folder(bench)
     bench.put("s.scenario", hosts + b"auto 3000 8\nreset b\nauto 500 3\ndrain a\ndrain b\ndrain c\n")
     ran = bench.run("run", "--events", "events.txt", "s.scenario", "outdir")
-    wires = wires_in(bench.path("s.scenario"))
+    wires = wires_in(bench.get("s.scenario").decode(), "s.scenario")
     network = Network(wires)
-    steps = list(steps_of(events_in(bench.path("events.txt"), "s.scenario", wires), wires, network))
+    events = events_in(bench.get("events.txt").decode(), "events.txt", "s.scenario", wires)
+    steps = list(steps_of(events, wires, network))
     bench.check("page: no frame is missing", (network.wrong, len(steps) > 3000), (0, True))
     for line in ran.stdout.decode().splitlines():
         host, given = line.split()[0], int(re.search(r" given (\d+)", line)[1])
@@ -259,8 +260,7 @@ def where_frames_are(bench):
     bench.check("page: nothing is left to be received", [stage for stage in left if stage in STAGES[3:6]], [])
     status, out, errors = chart(bench, "s.scenario", "events.txt", "--html", "--from", "10", "--to", "30")
     data = re.search('<script type="application/json" id=data>(.*?)</script>', out, re.S)
-    steps = json.loads(data[1])["runs"][0]["steps"]
-    numbers = [int(step["place"].split(".")[0]) for step in steps if step.get("place")]
+    numbers = [int(step["place"].split(".")[0]) for step in map(json.loads, data[1].splitlines()) if step.get("place")]
     bench.check("page: a part", (status, errors, min(numbers, default=0), max(numbers, default=0)), (0, "", 10, 30))
     bench.check("page: not with a picture", chart(bench, "--html", "--svg", "s.scenario", "events.txt")[0], 2)
 
@@ -310,7 +310,7 @@ def refused_charts(bench):
         ("s.scenario events.txt --from 11 --to 9", "--from: 11 is after 9"),
         ("s.scenario events.txt --from -1", "argument --from: '-1' isn't the number of an event"),
         ("s.scenario events.txt --to x", "argument --to: 'x' isn't the number of an event"),
-        ("", "the following arguments are required: SCENARIO"),
+        ("", "the following arguments are required: LOG"),
     ]:
         bench.check(f"chart: refused: {words}", chart(bench, *words.split()), (2, "", f"run_chart: {error}{ENDED}"))
     with open("/dev/full", "wb") as full:

@@ -1,16 +1,20 @@
-"""The template of pages as a C file, bindings/c/explore/page.c: the explorer writes pages without other files."""
+"""Makes the template of pages as a C file, bindings/c/explore/page.c: the explorer writes pages without other files.
+
+usage: python3 -m finder.page.c_file, in the repository's folder
+"""
 
 from __future__ import annotations
 
+import os
 from typing import Iterator
 
-from finder.page.write import template
+from finder.page.write import FOLDER, template
 
 NAMES = "xi_page_head", "xi_page_middle", "xi_page_end"
 WIDTH = 120
 BEGIN = """\
-/* Made by `tools/race_page --template bindings/c/explore/page.c` from finder/page: change the files there. The page has
- * a title after `xi_page_head`, and the log of a run in JSON after `xi_page_middle`. */
+/* Made by `python3 -m finder.page.c_file` from finder/page: change the files there. The page has a title after
+ * `xi_page_head`, and the log of a run after `xi_page_middle`. */
 #include "inside.h"
 """
 
@@ -48,3 +52,8 @@ def c_file() -> str:
     arrays = (f"\nconst char {name}[] =\n" + "\n".join(lines_of(text)) + "\n"
               for name, text in zip(NAMES, template()))
     return f"{BEGIN}{''.join(arrays)}"
+
+
+if __name__ == "__main__":
+    with open(os.path.join(FOLDER, "..", "..", "bindings", "c", "explore", "page.c"), "w", encoding="utf-8") as file:
+        file.write(c_file())

@@ -4,9 +4,8 @@ from __future__ import annotations
 
 from typing import TYPE_CHECKING, Iterator, Optional
 
-from finder.chart import access_in
-from finder.names import OF_STEPS, is_register, number_in
-from finder.page.log import ADAPTER, DRIVER, HANDLER, WIRE, RunLog, Step
+from finder.log import ADAPTER, DRIVER, HANDLER, WIRE, RunLog, Step
+from finder.names import OF_STEPS, access_of, is_register, number_in
 from finder.schedule import HOLDS
 from finder.talk import DEVIATION
 
@@ -20,7 +19,8 @@ CUTS_IN, RETURNS = "the handler cuts in", "the handler returns"
 
 def of_access(row: Row, actor: str) -> Step:
     """The step of a row that has an access."""
-    access, kind, name = access_in(row)
+    access, (kind, _, name) = access_of(row.line[2:]), (row.name or "").partition(" ")
+    assert access
     value = access.value if kind == "write" else number_in(access, row.answer)
     place = str(row.place)
     if is_register(name):
@@ -71,6 +71,6 @@ def steps_of(run: Run) -> Iterator[Step]:
             actor = DRIVER
 
 
-def of_run(run: Run, name: str) -> RunLog:
+def of_run(run: Run, command: str) -> RunLog:
     """The log of a run."""
-    return RunLog(name, tuple(map(str, run.met)), run.fault, tuple(steps_of(run)))
+    return RunLog(command, tuple(map(str, run.met)), run.fault, tuple(steps_of(run)))

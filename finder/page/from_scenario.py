@@ -10,7 +10,7 @@ import re
 from typing import Dict, Iterator, List, NamedTuple, Optional, Tuple
 
 from finder.names import FATES
-from finder.page.log import Step
+from finder.log import Step
 
 # Where the frames of a host are
 RING, BUFFER, COMING, STORED, PROGRESS, FINISHED, TAKEN, DROPPED = STAGES = (

@@ -7,10 +7,21 @@ const HELP = [['\u2192 \u2193 Space', 'the next step'], ['\u2190 \u2191 Shift+Sp
   ['/', 'search: Enter shows the next hit; n and N, too'], ['f', 'where was a frame?'], ['?', 'this list']];
 const at = id => document.getElementById(id);
 const escaped = text => text.replace(/[&<>"]/g, one => `&#${one.charCodeAt(0)};`);
-const LOG = JSON.parse(at('data').textContent), PLACES = LOG.places;
-const runs = { run: LOG.runs[0], other: LOG.runs[1] };
+/** The runs whose logs are in a text, line by line. */
+function runsIn(text) {
+  const logs = [];
+  for (const line of text.split('\n').filter(one => one.trim())) {
+    const one = JSON.parse(line), last = logs[logs.length - 1];
+    if (one.format) logs.push({ ...one, fault: null, steps: [] });
+    else if (one.actor) last.steps.push(one);
+    else last.fault = one.fault;
+  }
+  return logs;
+}
+const LOGS = runsIn(at('data').textContent), PLACES = LOGS[0].places;
+const runs = { run: LOGS[0], other: LOGS[1] };
 const all = { run: shownOf(runs.run), other: runs.other && shownOf(runs.other) };
-const lanes = PLACES ? PLACES.lanes : lanesOf(LOG.runs);
+const lanes = PLACES ? PLACES.lanes : lanesOf(LOGS);
 const found = PLACES ? [] : reasons(runs.run, runs.other), differs = runs.other && difference(runs.run, runs.other);
 const differsAt = differs && runs.run.steps.length ? differs.step ?? runs.run.steps.length - 1 : null;
 const stars = runs.run.steps.flatMap((step, n) => step.is_deviation ? [n] : []);
@@ -20,7 +31,7 @@ const rows = [], rowsOf = { run: [], other: [] };
 let side = 'run', now = 0, chosen = null, hits = [], buffersAreOpen = true;
 
 function beginOf() {
-  const lengths = LOG.runs.map(run => run.steps.length), { length } = runs.run.steps;
+  const lengths = LOGS.map(run => run.steps.length), { length } = runs.run.steps;
   if (Math.max(...lengths) <= MOST_STEPS) return 0;
   const begin = Math.min(length, ...stars, ...found.map(one => one.step));
   return Math.max(0, Math.min(begin - BEFORE, length - MOST_STEPS));
@@ -33,7 +44,7 @@ const hintOf = one => one.isHint || one.isLater ? ' hint' : '';
 const sectionOf = one => one.section ? ` See \u201C${escaped(one.section)}\u201D in docs/RACES.md.` : '';
 
 function headOf() {
-  const { run } = runs, lines = [`<h1>${escaped(LOG.command || run.name)}</h1>`], last = run.steps.length - 1;
+  const { run } = runs, lines = [`<h1>${escaped(run.command)}</h1>`], last = run.steps.length - 1;
   if (run.fault) lines.push(`<p class=fault>${escaped(run.fault)}</p>`);
   else lines.push(`<p>${PLACES ? `${run.steps.length} steps.` : 'The test passes.'}</p>`);
   if (first || last >= first + MOST_STEPS)

@@ -9,9 +9,9 @@ from functools import lru_cache
 from html import escape
 from typing import Any, Dict, Sequence, Tuple
 
+from finder.log import FORMAT, VERSION, RunLog, Step, text_of
 from finder.names import BITS, CAUSES, FIELD_BITS, FIELDS
 from finder.page import from_scenario
-from finder.page.log import FORMAT, VERSION, Log, RunLog, Step, json_of
 
 FOLDER = os.path.dirname(os.path.abspath(__file__))
 # What finds the state, the texts, and the reasons of a log, without a page; and what shows them
@@ -51,7 +51,7 @@ def template() -> Tuple[str, str, str]:
 
 
 def page_of(title: str, log: str) -> str:
-    """The page of a log in JSON."""
+    """The page of a log."""
     head, middle, end = template()
     return "".join([head, escape(title), middle, log.replace("<", "\\u003c"), end])
 
@@ -67,16 +67,16 @@ def short(step: Step) -> Step:
     return step._replace(data=data[:MOST_BYTES]) if data and is_long else step
 
 
-def shortened(log: Log) -> Log:
-    """A log as the page has it."""
-    def of(run: RunLog) -> RunLog:
-        return run._replace(steps=tuple(map(short, run.steps)))
-    return log._replace(run=of(log.run), other=of(log.other) if log.other else None)
+def shortened(run: RunLog) -> RunLog:
+    """The log of a run as the page has it."""
+    return run._replace(steps=tuple(map(short, run.steps)))
 
 
-def page(log: Log) -> str:
-    """The page of a log."""
-    return page_of(f"{log.command or log.run.name}: {log.run.fault or 'passes'}", json_of(shortened(log)))
+def page(runs: Sequence[RunLog]) -> str:
+    """The page of a run, which is the first one; and of the run without deviations to compare it with, if there is
+    one.
+    """
+    return page_of(f"{runs[0].command}: {runs[0].fault or 'passes'}", text_of([*map(shortened, runs)]))
 
 
 def plain_of(one: from_scenario.Shown) -> Dict[str, Any]:
@@ -88,6 +88,6 @@ def plain_of(one: from_scenario.Shown) -> Dict[str, Any]:
 def scenario_page(title: str, steps: Sequence[from_scenario.Shown], wires: Dict[str, str]) -> str:
     """The page of a scenario's run. Its log also has the lanes, and the texts and the changes of steps."""
     places = {"hosts": list(wires), "stages": from_scenario.STAGES, "lanes": from_scenario.lanes_of(wires)}
-    run = {"name": title, "schedule": [], "fault": None, "steps": list(map(plain_of, steps))}
-    log = {"format": FORMAT, "version": VERSION, "command": title, "places": places, "runs": [run]}
-    return page_of(f"{title}: passes", json.dumps(log, separators=(",", ":")))
+    head = {"format": FORMAT, "version": VERSION, "command": title, "schedule": [], "places": places}
+    lines = [head, *map(plain_of, steps), {"result": "passes", "fault": None}]
+    return page_of(f"{title}: passes", "".join(f"{json.dumps(line, separators=(',', ':'))}\n" for line in lines))

@@ -6,7 +6,7 @@ import shutil
 import subprocess
 import tempfile
 
-from finder.page.log import plain_run
+from finder.log import plain_run
 from finder.page.write import LOGIC, script
 from browser import Browser, program
 
@@ -77,7 +77,7 @@ class InBrowser:
 
 
 class Logic:
-    """The functions of the scripts, with runs as `finder.page.log` has them."""
+    """The functions of the scripts, with runs as `finder.log` has them."""
 
     def __init__(self, engine):
         self.engine = engine

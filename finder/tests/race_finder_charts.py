@@ -11,9 +11,11 @@ import subprocess
 import sys
 import xml.etree.ElementTree as ElementTree
 
+from finder.chart import ChartRow, cut
+from finder.names import fields_of, value_in
 from harness import TOP
 from race_finder import FINDER, FOUND, FRAME, PASSES, SMALL, SMALLEST, USAGE, find, replay
-from race_finder_output import REGISTERS, read, script, whole, write
+from race_finder_output import REGISTERS, read, whole, write
 from race_finder_stages import ARRIVAL_BUGS, BUGS, MORE_BUGS, RESET_BUGS, STAGED, rows
 from server import LIMIT, lines
 from server_pages import read_page
@@ -82,7 +84,7 @@ def pages(server):
 
 COLUMNS = ("place", "driver", "registers", "memory", "adapter", "wire", "line")
 ARROW = re.compile(" (<--+|--+>) ")
-MARK = re.compile(r"^ +(the handler (?:cuts in|returns))\b")
+MARK = re.compile(r"^[* ] +(the handler (?:cuts in|returns|is late))\b")
 SVG = "{http://www.w3.org/2000/svg}"
 
 
@@ -161,12 +163,17 @@ def contrasts(style):
         yield min(ratios[:4]), min(ratios[4:])
 
 
-def check_picture(server, name):
+def stored_picture(server, name):
+    """Checks the picture and the text in a folder. Returns the rows of the text."""
+    root = ElementTree.fromstring((server.get("charts/chart.svg") or b"").decode())
+    return check_picture(server, name, root, server.get("charts/chart.txt").decode())
+
+
+def check_picture(server, name, root, text):
     """The picture has the rows of the text. All its elements are inside of its size, and of the kinds that are listed
     here. Returns the rows of the text.
     """
-    root = ElementTree.fromstring((server.get("charts/chart.svg") or b"").decode())
-    wanted, last = text_rows(server.get("charts/chart.txt").decode())
+    wanted, last = text_rows(text)
     got, end = picture_rows(root)
     server.check(f"picture: {name}, its last line", end, last)
     server.check(f"picture: {name}, its number of rows", len(got), len(wanted))
@@ -174,7 +181,7 @@ def check_picture(server, name):
         server.check(f"picture: {name}, row {at + 1}", one, other)
     kinds = {one.tag.removeprefix(SVG) for one in root.iter()}
     wanted_kinds = {"g", "path", "rect", "style", "svg", "text", "title"}
-    server.check(f"picture: {name}, its elements", kinds, wanted_kinds)
+    server.check(f"picture: {name}, its elements", kinds | {"path", "rect"}, wanted_kinds)
     sizes = {"x": int(root.get("width")), "y": int(root.get("height"))}
     outside = [one.tag for one in root.iter() for key in sizes if not 0 <= int(one.get(key, 0)) < sizes[key]]
     server.check(f"picture: {name}, all is inside", outside, [])
@@ -201,7 +208,7 @@ def pictures(server):
                                 ("stages", "eerd", "0.9 hold eeprom before read EERD"),
                                 ("stages", "late", "4.6 rxdone before read ICR")]:
         replay(server, schedule, "--out", "charts/", command=[*STAGED, test, bug])
-        seen += check_picture(server, bug)
+        seen += stored_picture(server, bug)
     looks(server)
     arrows = {row[2] for row in seen if row[2]}
     pairs = [("driver", "registers"), ("driver", "memory"), ("memory", "adapter")]
@@ -213,7 +220,7 @@ def pictures(server):
     server.check("pictures: rows that are cut", ".." in [row[1].get("place") for row in seen], True)
     server.put("small", SMALL.encode())
     replay(server, SMALLEST, "--out", "charts/", command=["sh", "small", "fails"])
-    seen = check_picture(server, "small")
+    seen = stored_picture(server, "small")
     arrival = [row[2] for row in seen if row[1].get("adapter") == "stored"]
     server.check("pictures: an arrival", arrival, [(("adapter", "wire"), False)])
     replay(server, "", "--out", "charts/", command=["sh", "-c", r"printf '<a&b>]]>\033\377' >&2; exit 1"])
@@ -297,8 +304,11 @@ class Wanted:
             self.happen("frame")
         elif words[0] == "fault":
             return  # a dump has the outcome of the step
-        elif words[1] in ("offer", "settle", "mark"):
+        elif words[1] in ("offer", "settle"):
             return
+        elif words[1] == "mark":
+            self.time += 1
+            self.happen("_".join(words[2:]))
         elif words[1] in ("step", "arrive", "hold"):
             if words[-1] != "nothing":
                 self.time += 1
@@ -396,19 +406,11 @@ def dump_of_any_fault(server):
 
 # The files
 
-FIELDS = """
-import sys
-sys.dont_write_bytecode = True
-sys.path.insert(0, sys.argv[2])
-from finder.names import fields_of, value_in
-for name, data in [("rx[3]+8", "f205000001"), ("rx[3]+8", "0000000000"), ("rx[12]", "00" * 16), ("tx[0]+12", "01"),
-                   ("tx[7]", "00000200000000003c00000911000000"), ("rx[0]+7", "0000"), ("rx[0]+8", "07"),
-                   ("rx[0]+12", "00" * 8), ("0x1000", "00000000"), ("rx[0]", "00010000" * 2)]:
-    print(fields_of(name, len(data) // 2, int.from_bytes(bytes.fromhex(data), "little")))
-for register, value in [("ICR", 0x80), ("RCTL", 0x04038002), ("TCTL", 0xA), ("EERD", 0x110), ("RAH[0]", 1 << 31),
-                        ("MTA[0]", 1), ("RDT", 0)]:
-    print(value_in(register, value))
-"""
+FIELDS = [("rx[3]+8", "f205000001"), ("rx[3]+8", "0000000000"), ("rx[12]", "00" * 16), ("tx[0]+12", "01"),
+          ("tx[7]", "00000200000000003c00000911000000"), ("rx[0]+7", "0000"), ("rx[0]+8", "07"),
+          ("rx[0]+12", "00" * 8), ("0x1000", "00000000"), ("rx[0]", "00010000" * 2)]
+VALUES = [("ICR", 0x80), ("RCTL", 0x04038002), ("TCTL", 0xA), ("EERD", 0x110), ("RAH[0]", 1 << 31), ("MTA[0]", 1),
+          ("RDT", 0)]
 FIELDS_TOLD = """\
 length 1522, status 0x1 DD
 length 0, status 0x0
@@ -432,19 +434,10 @@ buffer 0x10000000100
 
 # Cuts charts of numbered rows. Each case states the rows with stars, what other rows show in memory, and the number of
 # rows.
-CUT = """
-import sys
-sys.dont_write_bytecode = True
-sys.path.insert(0, sys.argv[2])
-from finder.chart import ChartRow, cut
-slots = {11: "tx[1]+8 a", 18: "tx[1] b", 19: "tx[1]+8 a", 20: "tx[0] c", 21: "buffer of tx[1] d", 25: "tx[1] b",
+SLOTS = {11: "tx[1]+8 a", 18: "tx[1] b", 19: "tx[1]+8 a", 20: "tx[0] c", 21: "buffer of tx[1] d", 25: "tx[1] b",
          28: "tx[1] e", 30: "tx[1] f"}
-for stars, memory, count in [((), {}, 30), ((), {}, 3), ((10,), {}, 40), ((10, 30), {}, 60), ((10, 21), {}, 32),
-                             ((0,), {}, 2), ((10,), {at: "read" for at in range(35, 40)}, 40), ((10,), slots, 60)]:
-    rows = [ChartRow({"": "*"} if at in stars else {"": "", "place": str(at), "memory": memory.get(at, str(at))})
-            for at in range(count)]
-    print(*(row.cells.get("") or row.cells.get("driver") or row.cells["place"] for row in cut(rows)))
-"""
+CUT = [((), {}, 30), ((), {}, 3), ((10,), {}, 40), ((10, 30), {}, 60), ((10, 21), {}, 32), ((0,), {}, 2),
+       ((10,), {at: "read" for at in range(35, 40)}, 40), ((10,), SLOTS, 60)]
 CUT_TOLD = """\
 10 11 12 13 14 15 16 17 18 19 20 21 22 23 24 25 26 27 28 29
 0 1 2
@@ -459,10 +452,11 @@ CUT_TOLD = """\
 
 def cuts(server):
     """The rows that a chart shows: near deviations, at the end, other uses of a slot; 20 rows without a deviation."""
-    status, out, errors = script(server, CUT)
-    server.check("cuts: it runs", (status, errors), (0, ""))
-    for at, (got, wanted) in enumerate(zip([*out.splitlines(), *[""] * 8], CUT_TOLD.splitlines())):
-        server.check(f"cuts: chart {at + 1}", got, wanted)
+    for (stars, memory, count), wanted in zip(CUT, CUT_TOLD.splitlines()):
+        shown = [ChartRow({"": "*"} if at in stars else {"": "", "place": str(at), "memory": memory.get(at, str(at))})
+                 for at in range(count)]
+        told = [row.cells.get("") or row.cells.get("driver") or row.cells["place"] for row in cut(shown)]
+        server.check(f"cuts: {count} rows, {stars}", " ".join(told), wanted)
 
 
 def files(server):
@@ -492,7 +486,9 @@ def files(server):
                                errors) is not None
         server.check(f"files: {path} can't be written", (status, is_told), (USAGE, True))
     shutil.rmtree(server.path("charts"))
-    server.check("files: fields and bits", script(server, FIELDS), (0, FIELDS_TOLD, ""))
+    told = [fields_of(name, len(data) // 2, int.from_bytes(bytes.fromhex(data), "little")) for name, data in FIELDS]
+    told += [value_in(register, value) for register, value in VALUES]
+    server.check("files: fields and bits", "".join(f"{one}\n" for one in told), FIELDS_TOLD)
 
 
 def all_cases(server):

@@ -13,7 +13,7 @@ from finder.chart import COLUMNS, ChartRow, chart_of, end_of, text_chart
 from finder.terminal import Look, chart_on
 from harness import TOP
 from race_finder import FINDER, FOUND, SMALL, SMALLEST, USAGE, find, replay
-from race_pages import QUEUE, STAGED, TXSTOP, run_of
+from race_pages import QUEUE, STAGED, TXSTOP, logs_of
 from server import LIMIT
 
 ESCAPE = re.compile(r"\x1b\[[0-9]*m")
@@ -54,7 +54,7 @@ def fits(server):
     for name, command, schedule in [("late", [*STAGED, "stages", "late"], "4.6 rxdone before read ICR"),
                                     ("rxo", [*STAGED, "offers", "rxo"], "39.3 arrive before write ICR"),
                                     ("txstop", [*QUEUE, "txstop"], TXSTOP)]:
-        run = run_of(server, command, schedule)
+        run, _ = logs_of(server, command, schedule)
         rows, end = chart_of(run), end_of(run)
         plain = text_chart(rows, end)
         for width in WIDTHS:

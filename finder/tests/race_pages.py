@@ -14,9 +14,9 @@ from random import Random
 
 from finder.draw import drawing_of
 from finder.names import OF_STEPS
+from finder.log import RunLog, Step, runs_in, text_of as log_text
 from finder.page.c_file import c_file
 from finder.page.from_finder import of_access, of_event, of_run
-from finder.page.log import Log, LogError, RunLog, Step, json_of, log_in
 from finder.page.write import page, shortened, template
 from finder.schedule import parse
 from finder.target import Target
@@ -36,7 +36,6 @@ COMMAND = re.compile(r"\$ (?:(?:echo|printf) '(.*)' \| )?tools/races .*?-- pytho
                      " (.*)")
 MOST_BYTES = 200_000  # for 1,000 steps
 EXAMPLE = ["python3", "-S", "examples/drivers/receive_test.py", "wrong"]
-PAGE = [sys.executable, "-S", "-E", os.path.join(TOP, "tools", "race_page")]
 
 
 def run_of(server, command, schedule="", seed=None):
@@ -227,12 +226,12 @@ def sizes(server):
                                     ("rdt", [*STAGED, "stages", "rdt"], "58.5 rxdata before write rx[2]"),
                                     ("queue", [*QUEUE, "right"], "6.15 tx before read STATUS")]:
         run, other = logs_of(server, command, schedule)
-        log = Log(name, run, other if schedule else None)
-        text = page(log)
-        steps = max(1000, sum(len(one.steps) for one in (run, other if schedule else None) if one))
+        runs = [run, other] if schedule else [run]
+        text = page(runs)
+        steps = max(1000, sum(len(one.steps) for one in runs))
         server.holds(f"sizes: {name}", len(text.encode()) <= MOST_BYTES * steps // 1000, f"{len(text)}, {steps} steps")
         elements = Elements(text)
-        server.check(f"sizes: {name}: its log", log_in(elements.log) == shortened(log), True)
+        server.check(f"sizes: {name}: its log", runs_in(elements.log) == [*map(shortened, runs)], True)
         server.check(f"sizes: {name}: nothing outside",
                      (elements.links, re.findall(r"https?:|@import|url\(|fetch\(", text)), ([], []))
 
@@ -242,11 +241,11 @@ def escapes(server):
     bad = "</script><b onload=x>&amp;\"'\ud800"
     run = RunLog(bad, (bad,), bad, (Step("driver", "mark", outcome=bad), Step("driver", "read", "1.1", bad, 4),
                                     Step("adapter", "rxdata", outcome=bad), Step(bad, "mark", bad)))
-    text = page(Log(bad, run, run)).encode("utf-8", "replace").decode()
-    elements, plain = Elements(text), Elements(page(Log("x", RunLog("x"))))
+    text = page([run, run]).encode("utf-8", "replace").decode()
+    elements, plain = Elements(text), Elements(page([RunLog("x")]))
     server.check("escapes: the elements of the page", elements.found, plain.found)
     server.check("escapes: the end of the script", text.count("</script>"), 2)
-    server.check("escapes: the log", log_in(elements.log).run == run, True)
+    server.check("escapes: the log", runs_in(elements.log) == [run, run], True)
     for part in template():
         server.check("escapes: the template has no mark left", re.findall(r"\b(TITLE|STYLE|DATA|SCRIPT)\b", part), [])
 
@@ -263,21 +262,11 @@ def lanes(server):
         server.check(f"lanes: {actors}", logic().call("lanes", run), wanted)
 
 
-def json(server):
-    """A log in JSON is read as it was written. Another text is refused."""
+def lines_of_logs(server):
+    """A log is read as it was written."""
     run, other = logs_of(server, [*STAGED, "stages", "late"], "4.6 rxdone before read ICR")
-    for log in (Log("late", run, other), Log("", other)):
-        server.check("json: the same again", log_in(json_of(log)) == log, True)
-    good = json_of(Log("x", RunLog("x", steps=(Step("driver", "read", "1.1", "ICR", 4, 128),))))
-    server.check("json: a right one", log_in(good).run.steps[0].value, 128)
-    for old, new in [('"version": 1', '"version": 2'), ("nic82540em", "other"), ('"actor"', '"who"'), ("128", "true"),
-                     ("128", "-1"), ('"x", "schedule": []', '1, "schedule": []'), ('"steps"', '"rows"'), ("}", "", ),
-                     ('"runs": [', '"runs": [], "more": [')]:
-        try:
-            log_in(good.replace(old, new))
-            server.check(f"json: {old} as {new} is refused", True, False)
-        except LogError as error:
-            server.check(f"json: {old} as {new} is refused", bool(str(error)), True)
+    for runs in ([run, other], [other]):
+        server.check("lines: the same again", runs_in(log_text(runs)) == runs, True)
 
 
 def files(server):
@@ -289,52 +278,17 @@ def files(server):
         plain = run()
         status, out, errors = run("--html", "race.html")
         server.check(f"files: {name}, the output is the same", (status, out, errors), plain)
-        log = log_in(Elements(server.get("race.html").decode()).log)
-        server.check(f"files: {name}, the page", (status, sum(step.is_deviation for step in log.run.steps),
-                                                  "finished too late" in log.run.fault), (FOUND, 2, True))
-        server.check(f"files: {name}, beside the run without deviations", log.other.fault, None)
+        ours, other = runs_in(Elements(server.get("race.html").decode()).log)
+        server.check(f"files: {name}, the page", (status, sum(step.is_deviation for step in ours.steps),
+                                                  "finished too late" in ours.fault), (FOUND, 2, True))
+        server.check(f"files: {name}, beside the run without deviations", other.fault, None)
         server.remove("race.html")
     for path in ("none/x.html", "small/", ".", ""):
         status, _, errors = replay(server, "", "--html", path, command=["true"])
         server.check(f"files: {path!r} is refused", (status, "--html" in errors), (USAGE, True))
     status, _, errors = replay(server, "", "--html", "race.html", command=["sh", "small", "right"])
-    log = log_in(Elements(server.get("race.html").decode()).log)
-    server.check("files: a run that passes", (status, log.run.fault, errors), (PASSES, None, ""))
-
-
-def refused(server):
-    """tools/race_page refuses wrong arguments, logs and commands, with a line on standard error."""
-    server.put("log", b"  1.1    read ICR 0x80\nThe test passes.\n")
-    server.put("bad", b"  1.1    read ICR 0x80\nno log\nThe test passes.\n")
-    server.put("schedule", b"1.1 rx before read ICR\n")
-    server.put_script("endless", "#!/bin/sh\nexec sleep 100\n")
-    for words, status, told in [
-            ((), 2, "give --html FILE or --json FILE"), (("--html", "x"), 2, "give one LOG or two"),
-            (("--html", "x", "log", "log", "log"), 2, "give one LOG or two"),
-            (("--html", "x", "none"), 2, "none: No such file"), (("--html", "x", "bad"), 2, "bad: line 2 isn't"),
-            (("--html", "x", "schedule"), 2, "schedule: line 1 isn't"),
-            (("--html", "none/x", "log"), 3, "none/x: No such file"), (("--html", "x", "--", "true"), 2, "--replay"),
-            (("--html", "x", "--replay", "none", "--", "true"), 2, "none: No such file"),
-            (("--html", "x", "--replay", "log", "--", "true"), 2, "log: line 1"),
-            (("--html", "x", "--replay", "schedule", "--", "./none"), 3, "./none: No such file"),
-            (("--html", "x", "--replay", "schedule", "--", "true"), 3, "isn't a line of a log"),
-            (("--html", "x", "--replay", "schedule", "--seconds", "1", "--", "./endless"), 3, "no end within 1"),
-            (("--html", "x", "--seconds", "0", "log"), 2, "--seconds"),
-            (("--template", "x", "--html", "x"), 2, "--template: it goes without"),
-            (("--template", "none/x"), 3, "none/x: No such file")]:
-        ran = server.execute(*PAGE, *words)
-        server.check(f"refused: {' '.join(words)}", (ran[0], ran[1], told in ran[2] and "Traceback" not in ran[2]),
-                     (status, "", True))
-        server.check(f"refused: {' '.join(words)}: no page", server.get("x"), None)
-    ran = server.execute(*PAGE, "--html", "x", "--replay", "schedule", "--json", "x.json", "log", "log")
-    server.check("refused: right files", (ran, server.get("x") is not None), ((0, "", ""), True))
-    server.put("late", b"options --rxa 2\n# a comment\n4.6+1 late irq before touch 0x10\nchoose 2 before choose#3\n")
-    ran = server.execute(*PAGE, "--html", "z", "--replay", "late", "log")
-    server.check("refused: deviations that the finder doesn't know",
-                 (ran, "4.6+1 late irq before touch 0x10" in server.get("z").decode()), ((0, "", ""), True))
-    ran = server.execute(*PAGE, "--html", "y", "x.json")
-    server.check("refused: the page of the JSON log is the same", (ran, server.get("y")),
-                 ((0, "", ""), server.get("x")))
+    run, = runs_in(Elements(server.get("race.html").decode()).log)
+    server.check("files: a run that passes", (status, run.fault, errors), (PASSES, None, ""))
 
 
 def example(server):
@@ -349,11 +303,11 @@ def example(server):
     server.check("example: it is made", (status, errors), (FOUND, ""))
     server.holds("example: docs/race.html", same, f"make it by: {told}")
     same = c_file() == text_of("bindings", "c", "explore", "page.c")
-    server.holds("example: page.c", same, "make it by: tools/race_page --template bindings/c/explore/page.c")
+    server.holds("example: page.c", same, "make it by: python3 -m finder.page.c_file")
 
 
 def all_cases(server):
-    for part in [sizes, escapes, json, files, refused, example]:
+    for part in [sizes, escapes, lines_of_logs, files, example]:
         part(server)
     if not logic():
         not_run("what pages show", "there is neither Node.js nor Chromium")

@@ -9,14 +9,14 @@ import os
 import subprocess
 import sys
 
-from finder.page.from_explorer import of_text
+from finder.log import RunLog, Step
 from finder.page.from_scenario import STAGES
-from finder.page.log import Log, RunLog, Step
 from finder.page.write import page
 from browser import NAMES, Browser, program
 from harness import TOP, not_run
 from race_pages import QUEUE, STAGED, TXSTOP, logs_of
 from race_pages_rules import DONE, FRAME, LAP, text_of
+from text_log import run_of_text
 
 FOLDER = os.path.join(TOP, ".build", "race_pages")
 NOW = "document.querySelector('.now')"
@@ -232,12 +232,12 @@ def hostile(server, browser):
     bad = "</script><img src=x onerror=window.bad=1>&amp;\"'"
     run = RunLog(bad, (bad,), bad, (Step("driver", "mark", outcome=bad), Step(bad, "read", bad, bad, 4, 1),
                                     Step("adapter", bad, bad, bad)))
-    browser.open(stored("hostile", page(Log(bad, run, run._replace(fault=None)))))
+    browser.open(stored("hostile", page([run, run._replace(fault=None)])))
     browser.value("compare(true); find('img'); trail('frame 1')")
     server.check("hostile: no trouble", (browser.value("window.bad"), browser.value("document.images.length"),
                                          browser.troubles()), (None, 0, []))
     server.check("hostile: its title", browser.value("document.title"), f"{bad}: {bad}")
-    browser.open(stored("empty", page(Log("empty", RunLog("empty")))))
+    browser.open(stored("empty", page([RunLog("empty")])))
     server.check("a run without steps", (browser.value("document.getElementById('state').textContent"),
                                          browser.troubles()), ("The log has no steps.", []))
 
@@ -246,7 +246,7 @@ def long(server, browser):
     """A part of a long run keeps the numbers of the steps, and the state of the steps before it."""
     accesses = [Step("driver", "write", "0.1", "RDLEN", 4, 0x80), Step("driver", "write", "0.2", "RDT", 4, 7)]
     more = [Step("driver", "read", f"1.{at}", "RDT", 4, 7) for at in range(10_000)]
-    browser.open(stored("long", page(Log("long", RunLog("long", (), "it fails", (*accesses, *more))))))
+    browser.open(stored("long", page([RunLog("long", (), "it fails", (*accesses, *more))])))
     server.check("long: the last step", browser.value(STEP), "Step 10001")
     browser.press("Home")
     ring = browser.value("document.querySelector('svg').getAttribute('aria-label')")
@@ -258,7 +258,7 @@ def large(server, browser):
     """Of a large ring, the slots near the head are drawn."""
     steps = [Step("driver", "write", "0.1", "RDLEN", 4, 65536), Step("driver", "write", "0.2", "RDH", 4, 4090),
              Step("driver", "write", "0.3", "RDT", 4, 5)]
-    browser.open(stored("large", page(Log("large", RunLog("large", steps=tuple(steps))))))
+    browser.open(stored("large", page([RunLog("large", steps=tuple(steps))])))
     ring = browser.value("document.querySelector('svg').getAttribute('aria-label')")
     server.check("large: the ring", [text in ring for text in ("4096 slots", "rx[4090]: offered, RDH.",
                                                               "rx[4]: offered.", "rx[5]: the driver's, RDT.")],
@@ -268,7 +268,7 @@ def large(server, browser):
                  Step("driver", "write", "0.2", "RDT", 4, size - 1),
                  *[Step("wire", "arrive", "0.3", "", 60, outcome="stored"), Step("adapter", "rxdata", outcome="moved"),
                    Step("adapter", "rxdone", outcome="done")] * 3]
-        browser.open(stored(f"ring-{size}", page(Log("ring", RunLog("ring", steps=tuple(steps))))))
+        browser.open(stored(f"ring-{size}", page([RunLog("ring", steps=tuple(steps))])))
         labels = browser.value("[...document.querySelectorAll('.ring text')].map(one => one.textContent)")
         numbers = [int(label) for label in labels if label.isdigit()]
         server.check(f"ring of {size}: labels",
@@ -286,8 +286,8 @@ def owners(server, browser):
     """The table of buffers states only what the log shows: here, a descriptor is stored after the adapter has used it.
     """
     late = f"write 0x3010, 16 bytes: {'00080100':0<32}"
-    run = of_text(text_of([*LAP, FRAME, DONE[0], late, DONE[1]]), "run")
-    browser.open(stored("owners", page(Log("owners", run))))
+    run = run_of_text(text_of([*LAP, FRAME, DONE[0], late, DONE[1]]))
+    browser.open(stored("owners", page([run])))
     read = "[...document.querySelectorAll('#buffers tr')].map(one => one.textContent)"
     adapter, later = "not in the logthe adapter: rx[1], ", "0x10800the driver: in the descriptor of rx[1], but the "
     fetched = f"{later}adapter has fetched what was there before"
@@ -328,9 +328,9 @@ def all_cases(server):
         return
     os.makedirs(FOLDER, exist_ok=True)
     run, other = logs_of(server, [*STAGED, "stages", "late"], "4.6 rxdone before read ICR")
-    address = stored("late", page(Log("staged_test.py stages late", run, other)))
+    address = stored("late", page([run._replace(command="staged_test.py stages late"), other]))
     queue, right = logs_of(server, [*QUEUE, "txstop"], TXSTOP)
-    second = stored("txstop", page(Log("queue_test.py txstop", queue, right)))
+    second = stored("txstop", page([queue._replace(command="queue_test.py txstop"), right]))
     with Browser(path) as browser:
         browser.size(*WIDE)
         browser.media()

@@ -3,10 +3,10 @@
 Each rule has a log in which it finds something, and a log of the same shape in which it must find nothing.
 """
 
-from finder.page.from_explorer import of_text
-from finder.page.log import ADAPTER, DRIVER, HANDLER, WIRE, LogError, RunLog
+from finder.log import RunLog
 from harness import not_run
 from page_script import logic
+from text_log import run_of_text
 
 QUIET = "quiet"
 
@@ -153,7 +153,7 @@ def text_of(lines, end="it fails"):
 def cases(server):
     """Each rule finds the race that its log shows, and nothing in the log of the same shape without it."""
     for number, (kind, section, lines) in enumerate(CASES):
-        run = of_text(text_of([*SET_UP, *lines]), "run")
+        run = run_of_text(text_of([*SET_UP, *lines]))
         found = [one for one in logic().findings(run) if one["kind"] != QUIET]
         name = f"rules: case {number}, {lines[-1]}"
         if kind:
@@ -174,39 +174,8 @@ def quiet(server):
     for lines, wanted in [([*sent, *read, status], [QUIET]), ([*sent, *read, status, "write TDT 0x1"], []),
                           ([*sent, *read, FRAME], []), ([*sent, "read ICR 0x3"], []), (["read ICR 0"], []),
                           ([*sent, *read, SENT.replace("tx[0]", "tx[1]"), "write TDT 0x2"], [])]:
-        run = of_text(text_of([*SET_UP, *lines]), "run")
+        run = run_of_text(text_of([*SET_UP, *lines]))
         server.check(f"quiet: {lines[-2:]}", [one["kind"] for one in logic().reasons(run)], wanted)
-
-
-def explorer(server):
-    """The lines that the explorer prints are read; others are refused."""
-    text = text_of(["settle", "read rx[1]+8 by a pointer, where these bytes are: 3c000000", "write rx[1] by a pointer",
-                    "* arrive: stored", "the handler cuts in", "read ICR 0x80", "the line is lowered",
-                    "the handler returns", "write 0x10000, 60 bytes: 000102030405060708090a0b0c0d0e0f..",
-                    "eeprom: ticked"],
-                   "The test passes.")
-    run = of_text(text, "run", ("1.1 rx before read ICR",))
-    told = [(step.actor, step.action, step.name, step.size, step.is_deviation) for step in run.steps]
-    server.check("explorer: the steps", told, [
-        (DRIVER, "request", "", 0, False), (DRIVER, "read", "rx[1]+8", 0, False), (DRIVER, "write", "rx[1]", 0, False),
-        (WIRE, "arrive", "", 0, True), (HANDLER, "mark", "", 0, False), (HANDLER, "read", "ICR", 4, False),
-        (ADAPTER, "lower", "", 0, False), (HANDLER, "mark", "", 0, False), (DRIVER, "write", "0x10000", 60, False),
-        (ADAPTER, "eeprom", "", 0, False)])
-    server.check("explorer: values", (run.fault, run.steps[1].data, run.steps[5].value, len(run.steps[8].data)),
-                 (None, bytes.fromhex("3c000000"), 0x80, 16))
-    more = of_text("  4.6+1  touch 0x10\n  4.7    choose 0x2\n  4.8    arrive: stored\n  4.9    settle\nit fails\n",
-                   "run")
-    server.check("explorer: other places", [(step.actor, step.action, step.place, step.outcome) for step in more.steps],
-                 [(DRIVER, "request", "4.6+1", "touch 0x10"), (DRIVER, "request", "4.7", "choose 0x2"),
-                  (WIRE, "arrive", "4.8", "stored"), (DRIVER, "request", "4.9", "settle")])
-    for bad in ("", "\n", "The test passes.\n", "  1.1    read ICR 0x80\n", "  1.1    read ICR\nok\n",
-                "         rxdata: done\nok\n", "x\n  1.1    read ICR 0x80\nok\n", text + "more\n",
-                "  1.1    read rx[0], 1 bytes: 0\nok\n"):
-        try:
-            of_text(bad, "run")
-            server.check(f"explorer: {bad[:30]!r} is refused", True, False)
-        except (LogError, ValueError) as error:
-            server.check(f"explorer: {bad[:30]!r} is refused", isinstance(error, LogError), True)
 
 
 def unknown(server):
@@ -215,7 +184,7 @@ def unknown(server):
     for more, causes, count in [([], ("0x80", "LSC MDAC"), 0), (["read ICR 0x84", "read ICR 0"], ("0x0", ""), 0),
                                 (["read ICR 0", "read ICR 0x80", "read RDH 0x5", "read rx[0]+12, 1 bytes: 01"],
                                  None, 4)]:
-        ended = logic().call("played", of_text(text_of([*lines, *more]), "run"))
+        ended = logic().call("played", run_of_text(text_of([*lines, *more])))
         cells = ended["cells"]
         if causes:
             server.check(f"unknown: {more}: causes", (cells["ICR"], cells["ICR?"]), causes)
@@ -230,12 +199,11 @@ def buffers(server):
     for lines, wanted in [([], "o//?/"), ([late], "o//0x10800/"), ([FRAME, DONE[0]], "p/0/?/?"),
                           ([FRAME, DONE[0], late], "p/0/0x10800/?"), ([FRAME, DONE[0], late, DONE[1]], "f/0/0x10800/?"),
                           ([late, FRAME, *DONE], "f/0/0x10800/"), ([late, FRAME, *DONE, late], "s//0x10800/")]:
-        cells = logic().call("played", of_text(text_of([*SET_UP, *LAP, *lines]), "run"))["cells"]
+        cells = logic().call("played", run_of_text(text_of([*SET_UP, *LAP, *lines])))["cells"]
         server.check(f"buffers: {lines}", cells["rx[1]"], wanted)
 
 
 def all_cases(server):
-    explorer(server)
     if not logic():
         not_run("the rules of pages", "there is neither Node.js nor Chromium")
         return

@@ -15,7 +15,7 @@ from page_maker.command import MARK, make_site
 NAME = sources.LIBRARY
 FOLDERS = ("docs", "examples", "machines", "bench", "bindings", "crates", "finder")
 FILES = ("CHANGELOG.md", "LICENSE",
-         *(os.path.join("tools", name) for name in ("races", "race_page", "run_chart", "sources.py", "to_pcap")))
+         *(os.path.join("tools", name) for name in ("races", "run_chart", "sources.py", "to_pcap")))
 # The page for readers without the toolchain, in place of the README.md of the repository
 PAGE = os.path.join(os.path.dirname(os.path.abspath(__file__)), "release.txt")
 SHARED = f"lib/{shared_object.NAME}"

@@ -298,15 +298,25 @@ void xi_log_touch(uint64_t address);
 void xi_log_request(const char *result);
 void xi_log_mark(const char *mark, bool is_deviation);
 void xi_log_step(const char *action, const char *result, bool is_deviation);
+void xi_log_hold(const char *action);
+void xi_log_fault(const char *slot, const char *reason);
 
-/* html.c: the page of a run, with --html. log.c calls the functions of the steps while there is a file for them. */
-extern FILE *xi_html_steps;
-void xi_html_value(uint32_t value);
-void xi_html_bytes(const void *bytes, size_t count);
-void xi_html_touch(const uint8_t *bytes, size_t count);
-void xi_html_request(const char *result);
-void xi_html_mark(const char *mark, bool is_deviation);
-void xi_html_step(const char *action, const char *result, bool is_deviation);
+/* steps.c: the steps of a run in JSON. log.c calls these functions while xi_steps isn't NULL. */
+extern FILE *xi_steps;
+extern void (*xi_draws_chart)(const struct deviation *path, unsigned count);
+extern bool xi_steps_are_short;
+void xi_step_value(uint32_t value);
+void xi_step_bytes(const void *bytes, size_t count);
+void xi_step_touch(const uint8_t *bytes, size_t count);
+void xi_step_request(const char *result);
+void xi_step_mark(const char *mark, bool is_deviation);
+void xi_step_taken(const char *action, const char *result, bool is_deviation);
+void xi_step_hold(const char *action);
+void xi_step_fault(const char *slot, const char *reason);
+void xi_steps_begin(FILE *file, const struct deviation *path, unsigned count);
+void xi_steps_open(const struct deviation *path, unsigned count);
+
+/* html.c: the page of a run, with --html */
 void xi_html_begin(void);
 extern const char xi_page_head[], xi_page_middle[], xi_page_end[]; /* page.c */
 int xi_html_end(int status);

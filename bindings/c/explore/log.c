@@ -13,7 +13,13 @@ static bool was_raised;
  * they left on the stack could make states of a search different. */
 static bool is_on(void)
 {
-    return xi_given.log || xi_html_steps;
+    return xi_given.log || xi_steps;
+}
+
+/* Whether the log is printed as text */
+static bool is_text(void)
+{
+    return xi_given.log && !xi_given.json;
 }
 
 /* Begins the line of the place at which the run is. */
@@ -46,9 +52,9 @@ static void log_line(void)
 
 static APART void log_value(uint32_t value)
 {
-    if (xi_html_steps)
-        xi_html_value(value);
-    if (!xi_given.log)
+    if (xi_steps)
+        xi_step_value(value);
+    if (!is_text())
         return;
     begin();
     printf(" %#x\n", value);
@@ -57,9 +63,9 @@ static APART void log_value(uint32_t value)
 
 static APART void log_bytes(const void *bytes, size_t count)
 {
-    if (xi_html_steps)
-        xi_html_bytes(bytes, count);
-    if (!xi_given.log)
+    if (xi_steps)
+        xi_step_bytes(bytes, count);
+    if (!is_text())
         return;
     begin();
     printf(", %zu bytes: ", count);
@@ -76,9 +82,9 @@ static APART void log_touch(uint64_t address)
 
     host = xi_host(&size);
     count = address >= size ? 0 : size - address < MOST_TOUCHED ? (size_t)(size - address) : MOST_TOUCHED;
-    if (xi_html_steps)
-        xi_html_touch(xi_book->event == LOAD ? host + address : NULL, count);
-    if (!xi_given.log)
+    if (xi_steps)
+        xi_step_touch(xi_book->event == LOAD ? host + address : NULL, count);
+    if (!is_text())
         return;
     begin();
     if (xi_book->event == TOUCH)
@@ -92,9 +98,9 @@ static APART void log_touch(uint64_t address)
 
 static APART void log_request(const char *result)
 {
-    if (xi_html_steps)
-        xi_html_request(result);
-    if (!xi_given.log)
+    if (xi_steps)
+        xi_step_request(result);
+    if (!is_text())
         return;
     begin();
     printf("%s%s\n", result ? ": " : "", result ? result : "");
@@ -104,23 +110,41 @@ static APART void log_request(const char *result)
 /* Adds a line that is neither an access nor a step. */
 static APART void log_mark(const char *mark, bool is_deviation)
 {
-    if (xi_html_steps)
-        xi_html_mark(mark, is_deviation);
+    if (xi_steps)
+        xi_step_mark(mark, is_deviation);
     if (xi_is_piped)
         xi_pipe_mark(mark);
-    else if (xi_given.log)
+    else if (is_text())
         printf("%c        %s\n", is_deviation ? '*' : ' ', mark);
 }
 
 /* Adds a line: the adapter has taken a step, or an offered frame has arrived. */
 static APART void log_step(const char *action, const char *result, bool is_deviation)
 {
-    if (xi_html_steps)
-        xi_html_step(action, result, is_deviation);
-    if (!xi_given.log)
+    if (xi_steps)
+        xi_step_taken(action, result, is_deviation);
+    if (!is_text())
         return;
     printf("%c        %s: %s\n", is_deviation ? '*' : ' ', action, result);
     log_line();
+}
+
+/* Adds a line: a step isn't taken here. */
+static APART void log_hold(const char *action)
+{
+    if (xi_steps)
+        xi_step_hold(action);
+    if (is_text())
+        printf("*        %s\n", action);
+}
+
+/* Adds a line: why the last step was a fault. */
+static APART void log_fault(const char *slot, const char *reason)
+{
+    if (xi_steps)
+        xi_step_fault(slot, reason);
+    if (is_text())
+        printf("         fault %s: %s\n", slot, reason);
 }
 
 void xi_log_value(uint32_t value)
@@ -157,4 +181,16 @@ void xi_log_step(const char *action, const char *result, bool is_deviation)
 {
     if (is_on())
         log_step(action, result, is_deviation);
+}
+
+void xi_log_hold(const char *action)
+{
+    if (is_on())
+        log_hold(action);
+}
+
+void xi_log_fault(const char *slot, const char *reason)
+{
+    if (is_on())
+        log_fault(slot, reason);
 }

@@ -156,6 +156,8 @@ bool xi_deviate(int action)
         did = xi_play((uint32_t)action) != NIC_NOTHING;
     is_deviation = false;
     B->path_count += did, B->did += did, B->last = 1 + action;
+    if (did && (action == HOLD_STEP || (action >= HOLD && action < HOLD + CLOCKS)))
+        xi_log_hold(xi_actions[action]);
     if (did)
         xi_see_deviation();
     return did;

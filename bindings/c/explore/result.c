@@ -95,11 +95,8 @@ void xi_show(void)
     }
     say_replay(path ? path : R.found.count ? "/dev/stdin" : "/dev/null");
     xi_say("For each access:    the same with --log\n");
-    if (xi_has_command || xi_has_touched || !xi_is_nic() || !is_known_to_server())
-        return;
-    path = path || R.found.count ? path : "/dev/null";
-    xi_say("For its chart:      tools/races --replay %s -- %s --pipe   (after ./nicbench --build%s)\n",
-           path ? path : "FILE", xi_command, path ? "" : "; --out FILE stores the schedule");
+    if (xi_is_nic() && !xi_draws_chart)
+        xi_say("For its chart:      the same with --log --json | tools/run_chart -\n");
 }
 
 /* With --serve, plays the schedule that was found by `nicbench serve`, and prints whether the result is the same. */

@@ -445,14 +445,16 @@ int xi_replay_given(void)
     bool is_unreached;
 
     found->count = (unsigned)xi_read_schedule(xi_given.replay, found->path);
+    xi_steps_open(found->path, found->count);
     xi_replay(found->path, found->count, true, &lack);
     is_unreached = !lack.text[0] && lack.unreached < found->count;
     if (lack.text[0])
         xi_say("%s\n", lack.text);
-    found->fails = xi_state->fault;
+    found->fails = xi_state->fault != NULL;
     if (found->fails)
         snprintf(found->fault, sizeof found->fault, "%s", xi_state->fault);
-    xi_say("%s\n", found->fails ? found->fault : "The test passes.");
+    if (!xi_steps) /* else this is the log's end */
+        xi_say("%s\n", found->fails ? found->fault : "The test passes.");
     xi_confirm_found();
     if (is_unreached)
         return unreached(lack.unreached);

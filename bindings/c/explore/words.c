@@ -20,7 +20,8 @@ static const char help[] =
     "                       EEPROM and the PHY\n"
     "  --states N           ends a search that has more states (default 20000000)\n"
     "  --seconds N          a run that doesn't end in N seconds fails (default 60)\n"
-    "  --replay FILE        plays one schedule; with --log, prints each access and each step\n"
+    "  --replay FILE        plays one schedule; with --log, prints each access and each step; with --log --json, prints\n"
+    "                       a line of JSON for each, from which tools/run_chart draws charts\n"
     "  --html FILE          stores a page of the schedule that was found, or of that of --replay: step through the run\n"
     "                       in a browser\n"
     "  --serve PROGRAM      also plays the schedule that is printed, or that of --replay, by PROGRAM serve: its\n"
@@ -29,8 +30,7 @@ static const char help[] =
     "  --json               prints one JSON object instead of the text\n"
     "  --check              plays the drawn runs from saved states and from nothing, and compares all answers\n"
     "  --again              saves no states: plays each run from nothing\n"
-    "  --pipe               sends requests of `nicbench serve`: tools/races --replay FILE -- THIS --pipe\n"
-    "                       draws a chart\n"
+    "  --pipe               sends requests of `nicbench serve`, such as tools/races answers\n"
     "\n"
     "Without options, NIC_EXPLORE (N, every or draw:N), NIC_REPLAY, NIC_OUT, NIC_SERVE and NIC_HTML are used.\n"
     "Words before the first option belong to the test. Exit status: 0 if no schedule fails, 1 if one fails, 2 if a word or a\n"
@@ -150,8 +150,8 @@ void xi_take_words(int count, char **words)
         if (!is_flag(words[n]))
             take_value(words[n], n + 1 < count ? words[n + 1] : NULL), n++;
     }
-    if (xi_given.log && (!xi_given.replay || xi_given.json))
-        refuse("--log", "it needs --replay, and goes without --json");
+    if (xi_given.log && !xi_given.replay)
+        refuse("--log", "it needs --replay");
     if (xi_given.html && xi_given.pipe)
         refuse("--html", "it goes without --pipe");
     if (xi_given.all && xi_given.depth == EVERY)

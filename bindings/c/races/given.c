@@ -26,7 +26,10 @@ static const char help[] =
     "  --replay FILE        plays one schedule; with --log, prints each access and each step\n"
     "  --out PATH           stores the schedule that was found in this file, or in schedule.txt of a folder PATH/\n"
     "  --html FILE          stores a page of the run that was found or replayed, for a browser\n"
-    "  --json               prints one JSON object instead of the text\n"
+    "  --rows near|all      the rows of the chart of this run: near the deviations, by default, or all\n"
+    "  --color auto|always|never   its colors (default auto: on a terminal)\n"
+    "  --json               prints one JSON object instead of the text; with --replay FILE --log, first a line of JSON\n"
+    "                       for each access and step, from which tools/run_chart draws charts\n"
     "\n"
     "The adapter, as in `nicbench serve`: --memory BYTES, --link STEPS or never, --rxa KILOBYTES, --address MAC,\n"
     "--image FILE, --missed N, --registers ADDR. A line `options` of a schedule has such options, too.\n"
@@ -51,15 +54,13 @@ static const struct { const char *name, *instead; } gone[] = {
     { "--apart", "each run has a new process, unless COMMAND asks for its next run by `reset`" },
     { "--no-digest", "known states are only used where they are compared in full" },
     { "--options", "give the options of the adapter themselves, such as --rxa 2" },
-    { "--rows", "tools/chart draws charts from the log of a replay" },
-    { "--color", "tools/chart draws charts from the log of a replay" },
     { "--check", "each run is played from nothing" },
     { "--again", "each run is played from nothing" },
     { "--serve", "the lines of COMMAND are answered by the same player" },
     { "--pipe", "COMMAND has this word: tools/races -- ./test --pipe" },
 };
 
-struct races xr_given = { .registers = 0xFEB00000 };
+struct races xr_given = { .registers = 0xFEB00000, .rows = "near", .color = "auto" };
 
 static _Noreturn void refuse(const char *word, const char *why)
 {
@@ -119,6 +120,22 @@ static void name_command(void)
     }
 }
 
+/* Takes an option of the chart. Returns whether it is one. */
+static bool is_of_chart(const char *word, const char *value)
+{
+    if (!strcmp(word, "--rows")) {
+        if (!value || (strcmp(value, "near") && strcmp(value, "all")))
+            refuse(word, "its value is near or all");
+        xr_given.rows = value;
+    } else if (!strcmp(word, "--color")) {
+        if (!value || (strcmp(value, "auto") && strcmp(value, "always") && strcmp(value, "never")))
+            refuse(word, "its value is auto, always or never");
+        xr_given.color = value;
+    } else
+        return false;
+    return true;
+}
+
 /* Takes an option that isn't one of the search, with its value. Returns whether there was one. */
 static bool takes(char **words, int *n, int end)
 {
@@ -126,6 +143,8 @@ static bool takes(char **words, int *n, int end)
     bool is_jobs = !strcmp(word, "--jobs");
 
     refuse_gone(word);
+    if (is_of_chart(word, value))
+        return ++*n, true;
     if (!is_jobs && !xr_is_option(word))
         return false;
     if (!value)

@@ -12,6 +12,7 @@ enum { MOST_JOBS = 64, MOST_LINE = 1 << 18, MOST_NAME = 160 };
 extern struct races {
     char **command; /* ends with NULL */
     unsigned jobs;
+    const char *rows, *color; /* of its chart */
     uint64_t registers, seed; /* of the server */
 } xr_given;
 void xr_take_words(int count, char **words);
@@ -55,6 +56,10 @@ bool xr_answers_shown(const char *line, size_t size);
 void xr_show_answer(const char *line, size_t size, const char *told, size_t told_size);
 const char *xr_show_step(void);
 bool xr_is_raised(void);
+
+/* chart.c: the chart of a run */
+void xr_begin_chart(void);
+void xr_end_chart(void);
 
 /* kept.c: names of places, each of which is kept once */
 const char *xr_kept(const char *name);

@@ -25,6 +25,7 @@ static const char *answered; /* the answer to the access or request that waits, 
 static const char *sent;     /* its line */
 static size_t sent_size;
 static uint8_t bytes[1 << 16];
+static char fault_name[24], fault_reason[64]; /* of the last step, if it isn't logged yet */
 
 bool xr_is_raised(void)
 {
@@ -45,8 +46,8 @@ static bool begins(const char *line, size_t size, const char *text)
 void xr_begin_shown(void)
 {
     is_raised = tells_log = tells_events = false, waiting.what = NOTHING_WAITS;
-    frames[0] = faults[0] = 0;
-    xr_is_shown = xi_given.log || xi_html_steps;
+    frames[0] = faults[0] = fault_name[0] = 0;
+    xr_is_shown = xi_given.log || xi_steps;
     if (xr_is_shown)
         xr_answer("log on", 6), xr_answer("events on", 9);
 }
@@ -157,14 +158,22 @@ static void log_access(void)
         xi_log_value((uint32_t)bytes[0] | (uint32_t)bytes[1] << 8 | (uint32_t)bytes[2] << 16 | (uint32_t)bytes[3] << 24);
 }
 
-/* The frame of the arrival that is logged next */
-static void keep_frame(const char *hex, size_t size)
+/* Keeps a frame that has arrived, or that was put on the wire: it is logged next. */
+static void keep_frame(struct frames *frames, const char *hex, size_t size)
 {
     size_t count = from_hex(hex, size);
 
     count = count < LONGEST ? count : LONGEST;
-    S->arrived.count = 1, S->arrived.begin[0] = 0, S->arrived.begin[1] = (uint32_t)count;
-    memcpy(S->arrived.bytes, bytes, count);
+    frames->count = 1, frames->begin[0] = 0, frames->begin[1] = (uint32_t)count;
+    memcpy(frames->bytes, bytes, count);
+}
+
+/* Logs the fault of the last step. */
+static void log_fault(void)
+{
+    if (fault_name[0])
+        xi_log_fault(fault_name, fault_reason);
+    fault_name[0] = 0;
 }
 
 /* Lines */
@@ -190,10 +199,10 @@ static void hear_log(const char *line, size_t size)
     if (sscanf(line, "# step %31s -> %31s", kind, outcome) == 2) {
         if (!strcmp(outcome, "nothing"))
             return;
-        waiting.what = STEP_TAKEN;
+        waiting.what = STEP_TAKEN, S->put.count = 0;
         memcpy(waiting.kind, kind, sizeof kind), memcpy(waiting.outcome, outcome, sizeof outcome);
     } else if (begins(line, size, "# arrive "))
-        keep_frame(line + 9, size - 9);
+        keep_frame(&S->arrived, line + 9, size - 9);
     else if (xr_is_at_place && B->event <= STORE)
         waiting.what = ACCESS;
 }
@@ -209,6 +218,13 @@ static void append(char *kept, const char *before, const char *text, size_t size
 /* Notes what an event tells, and keeps it until COMMAND fetches it. */
 static void hear_event(const char *line, size_t size)
 {
+    char ring[8];
+    unsigned slot;
+
+    if (begins(line, size, "frame "))
+        keep_frame(&S->put, line + 6, size - 6);
+    if (sscanf(line, "fault %7s %u %63[^\n]", ring, &slot, fault_reason) == 3)
+        snprintf(fault_name, sizeof fault_name, "%s[%u]", ring, slot);
     if (begins(line, size, "IRQ"))
         is_raised = is(line, size, "IRQ raise 0");
     else if (begins(line, size, "frame ") && !tells_events)
@@ -227,6 +243,7 @@ static size_t hear(const char *told, size_t size)
 {
     size_t at = 0;
 
+    log_fault();
     for (;;) {
         const char *line = told + at, *end = memchr(line, '\n', size - at);
         size_t length = end ? (size_t)(end - line) : size - at;
@@ -251,7 +268,7 @@ static void log_request(const char *answer)
         xi_log_value((uint32_t)number_of(answer, strcspn(answer, "\n")));
     else if (B->event == ARRIVE) {
         sscanf(answer, "%15s", fate);
-        keep_frame(sent + 7, sent_size - 7);
+        keep_frame(&S->arrived, sent + 7, sent_size - 7);
         xi_log_request(fate);
     } else
         xi_log_request(NULL);
@@ -268,7 +285,7 @@ void xr_show_answer(const char *line, size_t size, const char *told, size_t told
     if (xr_is_at_place && B->event > STORE)
         log_request(answered);
     hear(told, told_size);
-    log_waiting();
+    log_waiting(), log_fault();
     xr_tell(told + at, told_size - at);
 }
 
