@@ -285,7 +285,7 @@ static inline void xi_clean(void)
 }
 
 /* names.c: the text of schedules */
-extern const char *(*xi_name_here)(void); /* of the place at which the run is, if something else knows its name */
+extern struct place (*xi_place_here)(void); /* what knows the place at which the run is, if it isn't a call */
 struct place xi_place(void);
 uint32_t xi_first_of_table(uint32_t offset);
 void xi_name(char *into, size_t room, const struct place *place);

@@ -303,7 +303,7 @@ static void return_to_newest(void)
         xi_restore(&extras[count - 1].saved);
         return;
     }
-    xi_begin(true);
+    xi_begin(false);
     xi_next_place();
     for (search.count = 0; search.count < count; search.count++) {
         if (search.count)

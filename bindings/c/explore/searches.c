@@ -421,7 +421,8 @@ int xi_by_draws(void)
     if (xi_given.check)
         xi_say("each has the answers of a run from nothing\n");
     else
-        xi_say("no run fails\nother searches: --explore every, --explore %d%s%s\n", tried ? tried + 1 : DEEPEST_FIRST,
+        xi_say("no run fails\nother searches: %s--explore %d%s%s\n", xi_has_command ? "" : "--explore every, ",
+               tried ? tried + 1 : DEEPEST_FIRST,
                xi_given.pct ? "" : ", --pct 2 (by priorities)",
                xi_given.holds ? "" : ", --holds (a slow EEPROM and PHY)");
     return passes();

@@ -43,6 +43,7 @@ const char *xr_told(void);
 void xr_note_offers(void);
 
 /* run.c: the places of a run */
+extern unsigned xr_options; /* about how many schedules of one deviation the run has shown so far */
 extern bool xr_is_at_place; /* whether the line that is answered is one */
 
 
