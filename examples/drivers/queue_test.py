@@ -16,7 +16,7 @@ sys.dont_write_bytecode = True
 from adapter import Refused  # noqa: E402
 from driver import RECEIVE_BUFFER, DeviceError, Driver  # noqa: E402
 from stages import PATIENCE, Fault, Traffic  # noqa: E402
-from streams import Streams  # noqa: E402
+from streams import Streams, play  # noqa: E402
 from traffic import fault_of  # noqa: E402
 
 NAMES = "right", "prefetch", "txstop"
@@ -113,11 +113,10 @@ def queue(adapter, driver):
         run.finish()
 
 
-def main():
-    if len(sys.argv) != 2 or sys.argv[1] not in NAMES:
-        return f"usage: queue_test.py {'|'.join(NAMES)}"
+def fault_of_queue(name):
+    """Initializes the driver with this name, and runs the test. Returns the fault, or None."""
     adapter = Streams(None)
-    driver = QueueDriver(adapter, sys.argv[1])
+    driver = QueueDriver(adapter, name)
     try:
         driver.bring_up()
         return queue(adapter, driver)
@@ -125,4 +124,10 @@ def main():
         return str(error)
 
 
-sys.exit(main())
+def main():
+    if len(sys.argv) != 2 or sys.argv[1] not in NAMES:
+        sys.exit(f"usage: queue_test.py {'|'.join(NAMES)}")
+    play(lambda: fault_of_queue(sys.argv[1]))
+
+
+main()

@@ -1,5 +1,5 @@
 #!/usr/bin/env python3
-"""Runs a test of stages.py, arrivals.py or resets.py once, as a test for `tools/races`.
+"""Runs a test of stages.py, arrivals.py or resets.py, as a test for `tools/races`.
 
 usage: staged_test.py TEST [NAME]
 
@@ -17,7 +17,7 @@ from arrivals import groups, misses, offers  # noqa: E402
 from driver import ARRIVAL_BUGS, QUEUE, RESET_BUGS  # noqa: E402
 from resets import resets  # noqa: E402
 from stages import cuts, stages  # noqa: E402
-from streams import fault_of_run  # noqa: E402
+from streams import fault_of_run, play  # noqa: E402
 from sweep import DRIVERS  # noqa: E402
 
 TESTS = {"stages": partial(stages, is_scheduled=True), "cuts": cuts, "offers": offers,
@@ -29,8 +29,8 @@ def main():
     words = sys.argv[1:]
     test, name = [*words, "right"] if len(words) == 1 else words if len(words) == 2 else (None, None)
     if test not in TESTS or name not in NAMES:
-        return f"usage: staged_test.py {'|'.join(TESTS)} [{'|'.join(NAMES)}]"
-    return fault_of_run(TESTS[test], name, takes_over=test == "misses")
+        sys.exit(f"usage: staged_test.py {'|'.join(TESTS)} [{'|'.join(NAMES)}]")
+    play(partial(fault_of_run, TESTS[test], name, takes_over=test == "misses"))
 
 
-sys.exit(main())
+main()

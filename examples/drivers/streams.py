@@ -1,4 +1,4 @@
-"""Runs a test once, as a command of `tools/races`.
+"""Runs a test, as a command of `tools/races`.
 
 Requests go to standard output, and answers come from standard input.
 """
@@ -14,6 +14,19 @@ class Streams(Adapter):
 
     def start(self, *_):
         return sys.stdout.buffer, sys.stdin.buffer
+
+
+def play(test):
+    """Plays a run of a test, and others while `tools/races` has some for this process. Ends with status 1 after a run
+    with a fault. `test()` returns the fault of a run, or None.
+    """
+    while True:
+        fault = test()
+        if fault:
+            print(fault, file=sys.stderr, flush=True)
+        print(f"reset {int(bool(fault))}", flush=True)
+        if sys.stdin.buffer.readline() != b"OK\n":
+            sys.exit(bool(fault))
 
 
 def fault_of_run(test, name, takes_over=False):

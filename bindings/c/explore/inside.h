@@ -280,7 +280,7 @@ static inline void xi_clean(void)
 
 /* names.c: the text of schedules */
 extern const char *xi_actions[ACTIONS];
-extern const char *(*xi_name_here)(void); /* of the place at which the run is, if something else knows its name */
+extern struct place (*xi_place_here)(void); /* what knows the place at which the run is, if it isn't a call */
 struct place xi_place(void);
 uint32_t xi_first_of_table(uint32_t offset);
 void xi_name(char *into, size_t room, const struct place *place);
@@ -337,7 +337,7 @@ struct found { /* what a search has shown */
 extern uint64_t xi_repeated; /* runs of searches that were played again from nothing */
 extern uint64_t xi_played_on; /* runs that were played on from known states */
 void xi_explore(int depth, bool with_holds, bool finds_all, size_t most_states, struct found *found);
-extern bool xi_has_keys; /* whether states that can't be saved can be compared */
+extern bool (*xi_has_key)(void); /* whether the state here can be compared, though it can't be saved; or NULL */
 extern int (*xi_share)(uint8_t *actions, int count); /* what keeps the options of this process, or NULL */
 void xi_keep(struct found *found);
 unsigned xi_below(unsigned end);
@@ -403,6 +403,7 @@ void xi_go_host(bool asks);
 const char *xi_untold(void);
 
 /* kinds.c: schedules and seeds that fail */
+extern void (*xi_takes_failed)(const struct deviation *path, unsigned count, const char *fault); /* elsewhere, or NULL */
 void xi_add_failed(const struct deviation *path, unsigned count, const char *fault);
 void xi_add_seed(uint64_t seed, const char *fault);
 void xi_without_slot(char *name);
@@ -413,6 +414,7 @@ uint64_t xi_failed(void);
 /* searches.c: the searches of a command */
 extern bool xi_is_first_short; /* whether schedules of one deviation are tried first, though no state is saved */
 extern void (*xi_takes_drawn)(uint64_t seed); /* what plays the runs of seeds elsewhere, or NULL */
+extern void (*xi_explores_by)(int depth, bool with_holds, bool finds_all, size_t most_states, struct found *found);
 int xi_by_depth(void);
 int xi_by_draws(void);
 int xi_report(int least);

@@ -72,12 +72,19 @@ static bool begin_failed(const char *fault)
     return true;
 }
 
+void (*xi_takes_failed)(const struct deviation *path, unsigned count, const char *fault);
+
 /* A schedule fails: prints it, and counts its kind. */
 void xi_add_failed(const struct deviation *path, unsigned count, const char *fault)
 {
-    char *name = line_of(path, count, true), *line = line_of(path, count, false);
+    char *name, *line;
     unsigned n = 0;
 
+    if (xi_takes_failed) {
+        xi_takes_failed(path, count, fault);
+        return;
+    }
+    name = line_of(path, count, true), line = line_of(path, count, false);
     if (begin_failed(fault))
         fputs(", \"schedule\": ", list), xi_print_lines(list, path, count), fputc('}', list);
     xi_say("%s: %s\n", line, fault);

@@ -10,16 +10,16 @@ static const char *const events[] = { "read", "write", "read", "write", "touch",
                                       "interrupts on", "handler off", "handler on", "handler", "settle", "arrive",
                                       "step", "settle", "offer" };
 
-const char *(*xi_name_here)(void);
+struct place (*xi_place_here)(void);
 
 /* The access or the request at which the run is. */
 struct place xi_place(void)
 {
     struct place place = { xi_book->event, 0, xi_book->address, NULL };
 
-    if (xi_name_here)
-        place.text = xi_name_here();
-    for (int ring = 0; !place.text && ring < 2 && (place.event == LOAD || place.event == STORE); ring++) {
+    if (xi_place_here)
+        return xi_place_here();
+    for (int ring = 0; ring < 2 && (place.event == LOAD || place.event == STORE); ring++) {
         const uint32_t *at = xi_book->rings[ring];
         uint64_t from = xi_book->address - (at[0] | (uint64_t)at[1] << 32);
         if (from < at[2])

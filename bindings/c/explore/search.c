@@ -28,7 +28,7 @@ struct extra {
 static struct schedule_search search;
 static struct schedule_choice path[MOST_CHOICES];
 static struct extra extras[MOST_CHOICES];
-bool xi_has_keys;
+bool (*xi_has_key)(void);
 int (*xi_share)(uint8_t *actions, int count);
 static bool is_every, has_holds, goes_on;
 static uint64_t ends, next_end; /* of runs, so far; of them, the next that is played again from nothing */
@@ -326,7 +326,7 @@ static bool forward(struct found *found, double *counts)
             memset(counts, 0, width() * sizeof *counts), counts[0] = !xi_is_cut;
             return !S->fault || fail(found, counts);
         }
-        if (xi_saves || xi_has_keys)
+        if (xi_saves || (xi_has_key && xi_has_key()))
             place.key = key_here();
         met_count++;
         met = schedule_search_meet(&search, path, MOST_CHOICES, table, room, &place);
@@ -353,7 +353,7 @@ static void return_to_newest(void)
         xi_restore(&extras[count - 1].saved);
         return;
     }
-    xi_begin(true);
+    xi_begin(false);
     xi_next_place();
     for (search.count = 0; search.count < count; search.count++) {
         if (search.count)

@@ -8,6 +8,7 @@ enum { STATES_SMALLER = 500000, DEEPEST_FIRST = 3, STATES_FIRST = 10000, COMPARE
 
 bool xi_is_first_short;
 void (*xi_takes_drawn)(uint64_t seed);
+void (*xi_explores_by)(int depth, bool with_holds, bool finds_all, size_t most_states, struct found *found);
 static struct found *const found = &xi_result.found;
 static uint64_t deviations, compared; /* above 0 if a deviation did something; the number of compared runs */
 static int tried; /* all schedules of up to this number of deviations were tried, and pass */
@@ -157,7 +158,7 @@ static int wrong_search(void)
 static bool explore(int depth, uint64_t most, bool finds_all)
 {
     xi_is_history_needless = false;
-    xi_explore(depth, xi_given.holds, finds_all, most, found);
+    (xi_explores_by ? xi_explores_by : xi_explore)(depth, xi_given.holds, finds_all, most, found);
     note_search(depth);
     if (found->differs)
         exit(wrong_search());
@@ -420,7 +421,8 @@ int xi_by_draws(void)
     if (xi_given.check)
         xi_say("each has the answers of a run from nothing\n");
     else
-        xi_say("no run fails\nother searches: --explore every, --explore %d%s%s\n", tried ? tried + 1 : DEEPEST_FIRST,
+        xi_say("no run fails\nother searches: %s--explore %d%s%s\n", xi_has_command ? "" : "--explore every, ",
+               tried ? tried + 1 : DEEPEST_FIRST,
                xi_given.pct ? "" : ", --pct 2 (by priorities)",
                xi_given.holds ? "" : ", --holds (a slow EEPROM and PHY)");
     return passes();

@@ -30,6 +30,7 @@ static size_t in_from, in_end, out_end, errors_end;
 static double deadline;
 static int stopped_before; /* the signal that has come before this run, or 0 */
 static const char *fault;
+static bool resets;
 
 static double now(void)
 {
@@ -137,13 +138,19 @@ static void start(void)
 void xr_begin_command(bool is_new)
 {
     fault = NULL, xi_is_cut = false, stopped_before = xi_stopped(), deadline = now() + xi_given.seconds;
-    if (one.pid && one.may_go_on && !is_new) {
+    if (one.pid && one.may_go_on && !one.status && !is_new) {
         one.may_go_on = false, errors_end = 0;
         xr_tell("OK\n", 3);
         return;
     }
     xr_close_command();
     start();
+}
+
+/* Whether COMMAND plays one run after the other in a process */
+bool xr_resets(void)
+{
+    return resets;
 }
 
 /* Errors */
@@ -314,7 +321,7 @@ static bool is_reset(const char *line, size_t size)
     }
     if (status > 255)
         return false;
-    one.may_go_on = true, one.status = (int)(status << 8);
+    resets = one.may_go_on = true, one.status = (int)(status << 8);
     return true;
 }
 

@@ -60,8 +60,10 @@ static void take_drawn(uint64_t seed)
         return;
     }
     xi_is_cut = !take_run((unsigned)(n % all));
-    if (xi_is_cut && !xi_stopped()) /* a job couldn't go on */
-        xr_end_jobs(true), exit(NOT_RUN);
+    if (xi_is_cut && !xi_stopped()) { /* a job couldn't go on */
+        xr_end_jobs(false);
+        exit(NOT_RUN);
+    }
     if (xi_is_cut || is_last || (S->fault && !xi_given.all))
         xr_end_jobs(!xi_is_cut && is_last);
 }

@@ -6,7 +6,7 @@
 
 #define B xi_book
 
-enum { OFF, KEEP, COMPARE, MOST_SHOWN = 60, RUNS = 2 };
+enum { OFF, KEEP, COMPARE, MOST_SHOWN = 60, RUNS = 2, MOST_FIRST = 800 };
 static int does;
 static char *lines; /* of the first run, each with its size before it */
 static size_t lines_end, lines_room, at;
@@ -91,6 +91,7 @@ int xr_play_first(void)
         if (!xi_stopped() && (difference[0] || then.history != first.history))
             return unequal(&first, &then);
     }
+    xi_is_first_short = xr_options <= MOST_FIRST;
     free(lines), lines = NULL;
     if (xi_stopped()) {
         xi_say("%s: nothing was searched yet\n", xi_why());

@@ -12,7 +12,7 @@ static const char help[] =
     "answers from its standard input. A run fails if the exit status of COMMAND isn't 0, or if COMMAND takes too long.\n"
     "A schedule that fails is made smaller, and printed.\n"
     "\n"
-    "  --runs N             draws N schedules, after all of one deviation (default 1000)\n"
+    "  --runs N             draws N schedules (default 1000), after all of one deviation if there are few\n"
     "  --seed N             the seed of the first one (default 1); the next ones have the next seeds\n"
     "  --pct N              draws by priorities (PCT): the actor with the highest one goes first. At up to N - 1\n"
     "                       random events, the actor of the event gets one below all first ones\n"

@@ -8,14 +8,14 @@
 #include "races.h"
 #include <errno.h>
 #include <fcntl.h>
+#include <poll.h>
 #include <sched.h>
 #include <stdlib.h>
 #include <string.h>
 #include <sys/wait.h>
 #include <unistd.h>
 
-#define B xi_book
-
+enum { SLICE = 200 };
 static struct job {
     pid_t pid;
     int from;
@@ -59,14 +59,14 @@ static void pin(unsigned job)
 
 /* Messages */
 
-/* Sends bytes to the process that has started this job. If it doesn't read any more, or a signal has come, ends. */
+/* Sends bytes to the process that has started this job. If it doesn't read any more, ends. */
 void xr_send(const void *bytes, size_t size)
 {
     const char *at = bytes;
 
     while (size) {
         ssize_t sent = write(to, at, size);
-        if (sent < 0 && errno == EINTR && !xi_stopped())
+        if (sent < 0 && errno == EINTR)
             continue;
         if (sent < 0) {
             xr_close_command();
@@ -76,13 +76,29 @@ void xr_send(const void *bytes, size_t size)
     }
 }
 
-/* Takes bytes from a job. Returns false if there are none any more, or a signal has come. */
+/* Waits for bytes of a job. If a signal comes, asks all jobs for their end: then they send what they have. */
+static void wait_for(unsigned job)
+{
+    static bool is_asked;
+    struct pollfd file = { jobs[job].from, POLLIN, 0 };
+
+    while (poll(&file, 1, SLICE) <= 0)
+        if (xi_stopped() && !is_asked) {
+            is_asked = true;
+            for (unsigned n = 0; n < count; n++)
+                kill(jobs[n].pid, SIGTERM);
+        }
+}
+
+/* Takes bytes from a job. Returns false if it has ended. */
 bool xr_receive(unsigned job, void *into, size_t size)
 {
     char *at = into;
 
     while (size) {
-        ssize_t got = xi_stopped() ? 0 : read(jobs[job].from, at, size);
+        ssize_t got;
+        wait_for(job);
+        got = read(jobs[job].from, at, size);
         if (got < 0 && errno == EINTR)
             continue;
         if (got <= 0)

@@ -24,6 +24,7 @@ int main(int count, char **words)
     xr_prepare_command();
     xi_html_begin(), xr_begin_chart();
     xr_deal_drawn();
+    xi_has_key = xr_has_key, xi_explores_by = xr_explore;
     status = xi_given.replay ? xi_replay_given() : searched();
     xr_close_command(), xr_end_chart();
     status = xi_html_end(status);

@@ -30,6 +30,7 @@ bool xr_next_line(char **line, size_t *size);
 void xr_tell(const void *bytes, size_t size);
 const char *xr_end_command(void);
 void xr_close_command(void);
+bool xr_resets(void);
 
 /* end.c: why a run has failed */
 const char *xr_fault(const char *format, ...) __attribute__((format(printf, 1, 2)));
@@ -42,6 +43,7 @@ const char *xr_told(void);
 void xr_note_offers(void);
 
 /* run.c: the places of a run */
+extern unsigned xr_options; /* about how many schedules of one deviation the run has shown so far */
 extern bool xr_is_at_place; /* whether the line that is answered is one */
 
 
@@ -78,5 +80,15 @@ bool xr_receive_path(unsigned job, struct deviation *path, unsigned length);
 
 /* drawn.c: drawn runs of jobs */
 void xr_deal_drawn(void);
+
+/* explored.c: searches of all schedules, by jobs */
+void xr_begin_share(void);
+void xr_explore(int deviations, bool holds, bool all_that_fail, size_t most, struct found *found);
+
+/* known.c: what is compared of a state */
+void xr_set_depth(int deviations);
+void xr_begin_told(void);
+void xr_add_told(const char *text, size_t size);
+bool xr_has_key(void);
 
 #endif

@@ -111,8 +111,3 @@ struct outcome xi_fresh_draw(uint64_t seed)
     xi_draw(seed, xi_given.holds, true);
     return xi_outcome();
 }
-
-struct digest xi_digest(void)
-{
-    never();
-}
