@@ -102,7 +102,7 @@ def actors(server):
     """For PCT, the wire is one more actor if the test offers frames. `--json` prints the bound, too."""
     server.put("offered", OFFERED.encode())
     result = json.loads(find(server, "--pct", "2", "--runs", "3", "--json", command=["sh", "offered"])[1])
-    server.check("arrivals: the bound", result.get("pct"), {"depth": 2, "actors": 5, "events": 6, "bound": 1 / 30})
+    server.check("arrivals: the bound", result.get("pct"), {"depth": 2, "actors": 5, "events": 10, "bound": 1 / 50})
     result = json.loads(find(server, "--runs", "3", "--json", command=["sh", "offered"])[1])
     server.check("arrivals: no bound without --pct", "pct" in result, False)
 
