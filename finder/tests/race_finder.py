@@ -122,7 +122,7 @@ def page(server):
 
 def right(server):
     """The right driver fails in none of 150 drawn runs."""
-    status, out, errors = find(server, "--runs", "150", command=EXCHANGE)
+    status, out, errors = find(server, "--runs", "150", "--all", command=EXCHANGE)
     server.check("right: no run fails", (status, out.startswith("150 runs, ") and "\nno run fails\n" in out, errors),
                  (PASSES, True, ""))
 
@@ -220,8 +220,9 @@ def errors(server):
             (["--runs", "x"], "--runs: its value isn't a number, or is too great"),
             (["--fly"], "--fly: there is no such option"), (["runs"], "runs: write -- before COMMAND"),
             (["--rows", "few"], "--rows: its value is near or all"),
-            (["--color", "red"], "--color: its value is auto, always or never"), (["--jobs", "0"], "--jobs: its value is"),
-            (["--rxa", "3"], "--rxa: its value is an even number"), (["--by-name"], "--by-name: schedules have places")]:
+            (["--color", "red"], "--color: its value is auto, always or never"),
+            (["--jobs", "0"], "--jobs: its value is"), (["--rxa", "3"], "--rxa: its value is an even number"),
+            (["--by-name"], "--by-name: schedules have places")]:
         status, out, told = find(server, *words, command=["true"])
         server.check(f"errors: {words}", (status, out, told.startswith(f"races: {wanted}"), told.endswith(more)),
                      (USAGE, "", True, True))

@@ -167,7 +167,7 @@ def log_of(server, schedule, command):
     status, out, _ = replay(server, schedule, "--log", "--json", command=command)
     server.put("log", out.encode())
     run, = runs_in(out)
-    server.check(f"{command[-2:]}: its log", (status, run.fault is None), (FOUND if run.fault else PASSES, not run.fault))
+    server.check(f"{command[-2:]}: its log", status, FOUND if run.fault else PASSES)
     return run
 
 

@@ -38,7 +38,8 @@ class Reader:
 class Input:
     buffer = Reader(sys.stdin.buffer)
 
-sys.stdout.buffer.write(b"interleave 3\\n")  # tools/races, and a server that plays a schedule, answer OK and play no random steps
+# tools/races, and a server that plays a schedule, answer OK and play no random steps
+sys.stdout.buffer.write(b"interleave 3\\n")
 sys.stdout.buffer.flush()
 Input.buffer.readline()
 sys.stdin, sys.argv = Input, sys.argv[2:]
@@ -84,7 +85,7 @@ def direct(server, command, *words):
 
 
 def by_races(server, path, command):
-    """Replays a schedule by tools/races. Returns what the test stored, the reports of other accesses, and the errors."""
+    """Replays a schedule by tools/races. Returns what the test stored, reports of other accesses, and the errors."""
     text = server.get(path).decode()
     _, out, errors = replay(server, text, command=command)
     return taken(server), re.findall("makes another", out), errors

@@ -66,7 +66,8 @@ def right_drivers(server):
         for test in ("stages", "cuts"):
             words = ["--runs", str(RIGHT_SEEDS), "--all"]
             status, out, errors = find(server, *words, command=[*STAGED, test, name])
-            server.check(f"right: {name} passes {test}", (status, "\nno run fails\n" in out, errors), (PASSES, True, ""))
+            server.check(f"right: {name} passes {test}", (status, "\nno run fails\n" in out, errors),
+                         (PASSES, True, ""))
     schedule = "".join(f"58.0 {action} before settle\n" for action in ("tx", "tx", "rxdone"))
     for name in ("right", "pool"):
         got = replay(server, schedule, command=[*STAGED, "cuts", name])
