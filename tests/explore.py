@@ -17,6 +17,8 @@ import sys
 from harness import TOP, Ended, Program, not_run, test_all, words_of_script
 from page_script import logic
 from explorer_builds import builds, lies
+from explorer_commands import (commands, ended_commands, jobs, languages, refused_words, resets,
+                               stopped_commands)
 from explorer_devices import check_devices
 from explorer_draws import by_priorities
 from explorer_enumerated import Enumerated, build_enumerator, enumerated
@@ -475,7 +477,7 @@ def make(folder):
     return bench
 
 
-PARTS = (counts, searching, passes, calls, kept, builds, lies, hooks, untold, schedules, endless, enumerated, bugs,
+PARTS = (counts, commands, languages, jobs, resets, ended_commands, stopped_commands, refused_words, searching, passes, calls, kept, builds, lies, hooks, untold, schedules, endless, enumerated, bugs,
          all_that_fail, by_priorities, races, drawn, logs, arguments, left_behind, results, pages, pointers, devices,
          rust, lab, course, every)
 

@@ -339,6 +339,7 @@ extern uint64_t xi_played_on; /* runs that were played on from known states */
 void xi_explore(int depth, bool with_holds, bool finds_all, size_t most_states, struct found *found);
 extern bool (*xi_has_key)(void); /* whether the state here can be compared, though it can't be saved; or NULL */
 extern int (*xi_share)(uint8_t *actions, int count); /* what keeps the options of this process, or NULL */
+void xi_count_tried(double *tried);
 void xi_keep(struct found *found);
 unsigned xi_below(unsigned end);
 extern struct pct {

@@ -427,13 +427,13 @@ void xi_keep(struct found *found)
 }
 
 /* Counts the schedules that were tried so far: those that fail, and those that pass below each choice of the path. */
-static void count_tried(struct found *found)
+void xi_count_tried(double *tried)
 {
-    memcpy(found->tried, failing, sizeof found->tried);
+    memcpy(tried, failing, sizeof failing);
     for (size_t n = 0; n < search.count; n++) {
         size_t by = is_every ? 0 : search.depth - path[n].left;
         for (size_t m = 0; m + by < width(); m++)
-            found->tried[m + by] += extras[n].counts[m];
+            tried[m + by] += extras[n].counts[m];
     }
 }
 
@@ -443,7 +443,7 @@ static void show_progress(int depth)
 
     if (!xi_is_time())
         return;
-    now.schedules = 0, count_tried(&now);
+    now.schedules = 0, xi_count_tried(now.tried);
     for (size_t n = 0; n < width(); n++)
         now.schedules += now.tried[n];
     if (is_every)
@@ -473,7 +473,7 @@ static void search_all(int depth, size_t most_states, struct found *found)
     }
     if (search.count)
         add(counts), memset(counts, 0, sizeof counts);
-    count_tried(found);
+    xi_count_tried(found->tried);
     for (size_t n = 0; n < width(); n++)
         found->tried[n] += counts[n], found->schedules += found->tried[n];
     found->states = known_count + search.count;

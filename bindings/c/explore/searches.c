@@ -80,8 +80,10 @@ static int ended(void)
     static struct found first;
     uint64_t failed = xi_failed();
 
-    xi_say("%s, after %llu states and %s schedule%s: ", xi_why(), (unsigned long long)xi_result.states,
-           xi_number(xi_result.schedules), xi_result.schedules == 1 ? "" : "s");
+    xi_say("%s, after ", xi_why());
+    if (!xi_has_command)
+        xi_say("%llu states and ", (unsigned long long)xi_result.states);
+    xi_say("%s schedule%s: ", xi_number(xi_result.schedules), xi_result.schedules == 1 ? "" : "s");
     if (!failed) {
         xi_say("none of these fails\n");
         return xi_finish("ended", xi_stopped() ? 128 + xi_stopped() : NOT_RUN);

@@ -20,12 +20,14 @@ struct message {
     char fault[128], fresh[128];
     bool fails, differs, is_known, is_complete;
     double schedules, tried[DEEPEST + 1];
-    size_t states;
+    unsigned firsts; /* how many first deviations the job has met: what it has tried of each follows */
 };
 static struct {
     unsigned round, access, stage;
     int action;
 } firsts[MOST_FIRSTS]; /* the first deviations, by their numbers */
+static double tried[MOST_FIRSTS + 1][DEEPEST + 1], tried_before[DEEPEST + 1]; /* by their first deviations; all so far */
+static unsigned most_firsts; /* how many of these a job had */
 static unsigned job, all, met; /* this job; all jobs; how many first deviations the run has met so far */
 static volatile unsigned *best; /* the least first deviation with which a schedule fails, of all jobs */
 static int depth;
@@ -61,11 +63,26 @@ static int share(uint8_t *actions, int count)
     return kept;
 }
 
+/* Adds what was tried since the last call to what begins with the first deviation of the last run. */
+static void add_tried(const double *now)
+{
+    unsigned first = first_of(B->path, B->path_count);
+
+    for (unsigned n = 0; n <= DEEPEST; n++)
+        tried[first][n] += now[n] - tried_before[n];
+    memcpy(tried_before, now, sizeof tried_before);
+}
+
 /* A run begins. If the last one began with a later deviation than one that fails, ends the search of this job. */
 void xr_begin_share(void)
 {
-    if (xi_share && !finds_all && B->path_count && first_of(B->path, B->path_count) > *best)
-        xi_stop(SIGTERM);
+    double now[DEEPEST + 1] = { 0 };
+
+    if (xi_share) {
+        xi_count_tried(now), add_tried(now);
+        if (!finds_all && B->path_count && first_of(B->path, B->path_count) > *best)
+            xi_stop(SIGTERM);
+    }
     met = 0;
 }
 
@@ -99,14 +116,19 @@ static void work(unsigned number, unsigned count)
 
     job = number, all = count, xi_share = share, xi_takes_failed = send_failed;
     xi_explore(depth, has_holds, finds_all, most_states, &found);
+    add_tried(found.tried);
     message.count = found.fails || found.differs ? found.count : 0;
     message.fails = found.fails, message.differs = found.differs, message.is_known = found.is_known;
-    message.is_complete = found.is_complete, message.schedules = found.schedules, message.states = found.states;
+    message.is_complete = found.is_complete, message.schedules = found.schedules;
     memcpy(message.tried, found.tried, sizeof found.tried);
     memcpy(message.fault, found.fault, sizeof found.fault), memcpy(message.fresh, found.fresh, sizeof found.fresh);
     if (found.fails)
         note_best(first_of(found.path, found.count));
+    message.firsts = met;
     send_message(&message, found.path);
+    for (unsigned n = job; n < met; n += all)
+        xr_send(tried[n], sizeof tried[n]);
+    xr_send(tried[MOST_FIRSTS], sizeof *tried);
 }
 
 /* What the jobs have sent */
@@ -160,7 +182,7 @@ static void add_result(const struct message *one, const struct deviation *path, 
     bool is_first = one->first < *least, is_shorter = one->count < found->count;
     bool is_better = !found->fails || (finds_all ? is_shorter || (one->count == found->count && is_first) : is_first);
 
-    found->schedules += one->schedules, found->states += one->states, found->is_complete &= one->is_complete;
+    found->schedules += one->schedules, found->is_complete &= one->is_complete;
     for (unsigned n = 0; n <= DEEPEST; n++)
         found->tried[n] += one->tried[n];
     if (found->differs || !(one->differs || (one->fails && is_better)))
@@ -178,6 +200,25 @@ static void count_once(struct found *found, unsigned whole)
         found->schedules -= whole - 1, found->tried[0] -= whole - 1;
 }
 
+/* Takes what a job has tried of each first deviation. */
+static bool take_tried(unsigned number, unsigned jobs, unsigned firsts)
+{
+    most_firsts = firsts > most_firsts ? firsts : most_firsts;
+    for (unsigned n = number; n < firsts; n += jobs)
+        if (!xr_receive(number, tried[n], sizeof tried[n]))
+            return false;
+    return xr_receive(number, tried[MOST_FIRSTS], sizeof *tried);
+}
+
+/* If a search has ended at a schedule that fails, counts those that one process tries up to this one. */
+static void count_up_to(struct found *found, unsigned least)
+{
+    memset(found->tried, 0, sizeof found->tried), found->schedules = 0;
+    for (unsigned n = 0; n <= least; n++)
+        for (unsigned m = 0; m <= DEEPEST; m++)
+            found->tried[m] += tried[n][m], found->schedules += tried[n][m];
+}
+
 /* Takes what the jobs send. Returns false if one of them has ended without a result. */
 static bool take_results(unsigned jobs, struct found *found)
 {
@@ -187,15 +228,19 @@ static bool take_results(unsigned jobs, struct found *found)
 
     found->is_complete = true;
     for (unsigned n = 0; n < jobs; n++)
-        do {
+        for (message.what = FAILED; message.what != RESULT;) {
             if (!xr_receive(n, &message, sizeof message) || !xr_receive_path(n, path, message.count))
                 return false;
             if (message.what == FAILED)
                 keep_failed(&message, path);
-            else
-                add_result(&message, path, found, &least), whole += message.is_complete;
-        } while (message.what != RESULT);
-    count_once(found, whole);
+            else if (add_result(&message, path, found, &least), whole += message.is_complete,
+                     !take_tried(n, jobs, message.firsts))
+                return false;
+        }
+    if (found->fails && !finds_all && !xi_stopped())
+        count_up_to(found, least);
+    else
+        count_once(found, whole);
     return true;
 }
 
@@ -211,9 +256,11 @@ void xr_explore(int deviations, bool holds, bool all_that_fail, size_t most, str
         xi_die("memory is refused");
     *best = MOST_FIRSTS + 1, depth = deviations, has_holds = holds, finds_all = all_that_fail, most_states = most;
     xr_set_depth(deviations);
+    memset(tried, 0, most_firsts * sizeof *tried), memset(tried[MOST_FIRSTS], 0, sizeof *tried);
     jobs = deviations ? xr_begin_jobs(xr_given.jobs, work) : 1;
     if (jobs == 1) {
         xi_explore(deviations, holds, all_that_fail, most, found);
+        found->states = 0; /* none is saved */
         return;
     }
     memset(found, 0, sizeof *found);
