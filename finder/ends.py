@@ -1,24 +1,20 @@
-"""Signals that end the finder, and its output, which may be closed, unread or full."""
+"""Signals that end a program, and its output, which may be closed, unread or full."""
 
 from __future__ import annotations
 
 import io
 import os
-import select
 import signal
 import sys
-import time
-from contextlib import contextmanager, suppress
-from types import FrameType
-from typing import IO, Callable, Iterator, NoReturn, Optional
+from contextlib import suppress
+from typing import IO, NoReturn
 
 SIGNALS = (signal.SIGINT, signal.SIGTERM, signal.SIGHUP)
 BY_SIGNAL = 128  # the exit status after a signal is this number plus the signal's number
-PATIENCE = 1  # seconds: a signal that comes later than this after `hold` ends the finder at once
 
 
 class Ended(BaseException):
-    """A signal ends the finder."""
+    """A signal ends the program."""
 
     def __init__(self, number: int) -> None:
         super().__init__(number)
@@ -39,47 +35,17 @@ class Unprinted(Exception):
 
 # Signals
 
-def handle(handler: Callable[[int, Optional[FrameType]], object]) -> None:
-    """Lets each of SIGNALS call this handler, except for signals that are ignored, such as SIGHUP below `nohup`."""
-    for number in SIGNALS:
-        if signal.getsignal(number) != signal.SIG_IGN:
-            signal.signal(number, handler)
-
-
-def nothing(*_: object) -> None:
-    """Does nothing at a signal. If the signal were ignored instead, programs that are started would ignore it, too."""
-
-
 def end(number: int, _: object) -> NoReturn:
-    hold()
     raise Ended(number)
 
 
 def listen() -> None:
-    """From now on, the first of SIGNALS that comes raises Ended in the main thread."""
-    handle(end)
-
-
-def hold() -> None:
-    """From now on, SIGNALS don't interrupt the finder, which is ending processes. A signal that comes later than
-    PATIENCE ends the finder at once.
+    """From now on, a signal of SIGNALS raises Ended in the main thread, unless it is ignored, such as SIGHUP below
+    `nohup`.
     """
-    begun = time.monotonic()
-
-    def again(number: int, _: object) -> None:
-        if time.monotonic() - begun > PATIENCE:
-            os._exit(BY_SIGNAL + number)
-
-    handle(again)
-
-
-@contextmanager
-def holding() -> Iterator[None]:
-    """Calls `hold` when the block ends."""
-    try:
-        yield
-    finally:
-        hold()
+    for number in SIGNALS:
+        if signal.getsignal(number) != signal.SIG_IGN:
+            signal.signal(number, end)
 
 
 # Output
@@ -103,16 +69,6 @@ def say(*words: object, sep: str = " ", end: str = "\n") -> None:
     except OSError as error:
         discard(sys.stdout)
         raise Unprinted(error) from None
-
-
-def check_output() -> None:
-    """Raises Unprinted if standard output is a pipe that nobody reads any more. Without a reader, a search needn't go
-    on.
-    """
-    poll = select.poll()
-    poll.register(sys.stdout, 0)
-    if any(events & select.POLLERR for _, events in poll.poll(0)):
-        raise Unprinted(BrokenPipeError())
 
 
 def tell(text: str, end: str = "\n") -> None:

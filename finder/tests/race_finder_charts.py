@@ -1,5 +1,4 @@
-"""Tests the finder of races: its charts in docs/RACES.md and race_charts.txt, the picture, the value change dump, and
-the files of `--out`.
+"""Tests charts of tools/races: those in docs/RACES.md and race_charts.txt, the picture, and the value change dump.
 
 The dump is read by a small parser here, and by `vcd2fst` of GTKWave if it is installed (Debian: package gtkwave).
 """
@@ -13,14 +12,15 @@ import xml.etree.ElementTree as ElementTree
 
 from finder.chart import ChartRow, cut
 from finder.names import fields_of, value_in
+from finder.log import runs_in
 from harness import TOP
-from race_finder import FINDER, FOUND, FRAME, PASSES, SMALL, SMALLEST, USAGE, find, replay
-from race_finder_output import REGISTERS, read, whole, write
+from race_finder import FOUND, PASSES, RACES, SMALL, SMALLEST, replay
+from race_requests import read, whole, write
 from race_finder_stages import ARRIVAL_BUGS, BUGS, MORE_BUGS, RESET_BUGS, STAGED, rows
 from server import LIMIT, lines
 from server_pages import read_page
 
-FILES = ["chart.svg", "chart.txt", "log.txt", "run.vcd", "schedule.txt"]
+CHART = [sys.executable, "-S", "-E", os.path.join(TOP, "tools", "run_chart")]
 MOST_LINES, LONGEST = 25, 155
 
 FINISHED = "A frame is finished while the handler runs"
@@ -35,14 +35,14 @@ SECTIONS = {
 }
 # Bugs that have no chart, as they are no races
 NO_RACES = ["group", "wraps", "offers-queued"]
-CHART = (re.compile(r"^```\n\$ ([^\n]*examples/drivers/staged_test\.py (?:stages|cuts|offers|groups|resets) (\S+))\n"
+SHOWN = (re.compile(r"^```\n\$ ([^\n]*examples/drivers/staged_test\.py (?:stages|cuts|offers|groups|resets) (\S+))\n"
                     r"(.*?)^```$", re.M | re.S))
 
 
 def charts_of(page):
     """Yields the charts of a page: the bug, the heading of its section, the command and what it prints."""
     for section in re.split("^## ", page, flags=re.M)[1:]:
-        for command, bug, shown in CHART.findall(section):
+        for command, bug, shown in SHOWN.findall(section):
             yield bug, section.partition("\n")[0], command, shown
 
 
@@ -63,15 +63,14 @@ def pages(server):
     server.check("pages: all races have a chart", sorted(found), sorted(wanted))
     server.check("pages: there is one chart for each", len(list(charts_of(text))), len(found))
     sections = {section.partition("\n")[0]: section for section in re.split("^## ", races, flags=re.M)[1:]}
-    finder = " ".join([*FINDER, "--server", server.program])
-    for bug, test, _, _, deviations in rows():
+    for bug, test, _, deviations in rows():
         if bug in NO_RACES:
             continue
         heading, command, shown = found.get(bug, ("", "false", ""))
         server.check(f"pages: {bug}, its section", heading, SECTIONS.get(bug))
         server.check(f"pages: {bug}, a word of it", f"`{bug}`" in sections.get(heading, ""), True)
         server.check(f"pages: {bug}, its command", command, command_of(test, bug, deviations))
-        shell = command.replace("tools/races", finder, 1).replace("-- python3", f"-- {sys.executable} -S -E", 1)
+        shell = command.replace("tools/races", RACES, 1).replace("-- python3", f"-- {sys.executable} -S -E", 1)
         ran = subprocess.run(shell, shell=True, cwd=TOP, capture_output=True, timeout=LIMIT)
         server.check(f"pages: {bug}, its chart", (ran.returncode, ran.stdout.decode(), ran.stderr), (FOUND, shown, b""))
         stars = [line for line in shown.splitlines() if line.startswith("*")]
@@ -163,10 +162,25 @@ def contrasts(style):
         yield min(ratios[:4]), min(ratios[4:])
 
 
+def log_of(server, schedule, command):
+    """The run of a schedule. Stores its log in the file `log`."""
+    status, out, _ = replay(server, schedule, "--log", "--json", command=command)
+    server.put("log", out.encode())
+    run, = runs_in(out)
+    server.check(f"{command[-2:]}: its log", status, FOUND if run.fault else PASSES)
+    return run
+
+
+def drawn(server, *words):
+    """What tools/run_chart draws of the log."""
+    status, out, errors = server.execute(*CHART, *words, "log")
+    server.check(f"charts: {words}", (status, errors), (0, ""))
+    return out
+
+
 def stored_picture(server, name):
-    """Checks the picture and the text in a folder. Returns the rows of the text."""
-    root = ElementTree.fromstring((server.get("charts/chart.svg") or b"").decode())
-    return check_picture(server, name, root, server.get("charts/chart.txt").decode())
+    """Checks the picture of the log. Returns the rows of its text."""
+    return check_picture(server, name, ElementTree.fromstring(drawn(server, "--svg")), drawn(server))
 
 
 def check_picture(server, name, root, text):
@@ -190,7 +204,7 @@ def check_picture(server, name, root, text):
 
 def looks(server):
     """The picture is readable on light and on dark backgrounds, and has a generic font."""
-    root = ElementTree.fromstring(server.get("charts/chart.svg").decode())
+    root = ElementTree.fromstring(drawn(server, "--svg"))
     page = root.find(f"{SVG}rect[@class='page']")
     size = [root.get("width"), root.get("height")]
     server.check("picture: its background", [page.get("width"), page.get("height")], size)
@@ -207,7 +221,7 @@ def pictures(server):
     for test, bug, schedule in [("cuts", "cuts", "2.6 rxdone before write tx[1]"), ("stages", "part", ""),
                                 ("stages", "eerd", "0.9 hold eeprom before read EERD"),
                                 ("stages", "late", "4.6 rxdone before read ICR")]:
-        replay(server, schedule, "--out", "charts/", command=[*STAGED, test, bug])
+        log_of(server, schedule, [*STAGED, test, bug])
         seen += stored_picture(server, bug)
     looks(server)
     arrows = {row[2] for row in seen if row[2]}
@@ -219,24 +233,20 @@ def pictures(server):
     server.check("pictures: bars and stars", marks, [{"", "|"}, {" ", "*"}])
     server.check("pictures: rows that are cut", ".." in [row[1].get("place") for row in seen], True)
     server.put("small", SMALL.encode())
-    replay(server, SMALLEST, "--out", "charts/", command=["sh", "small", "fails"])
+    log_of(server, SMALLEST, ["sh", "small", "fails"])
     seen = stored_picture(server, "small")
     arrival = [row[2] for row in seen if row[1].get("adapter") == "stored"]
     server.check("pictures: an arrival", arrival, [(("adapter", "wire"), False)])
-    replay(server, "", "--out", "charts/", command=["sh", "-c", r"printf '<a&b>]]>\033\377' >&2; exit 1"])
-    root = ElementTree.fromstring(server.get("charts/chart.svg").decode())
+    log_of(server, "", ["sh", "-c", r"printf '<a&b>]]>\033\377' >&2; exit 1"])
+    root = ElementTree.fromstring(drawn(server, "--svg"))
     end = root.find(f"{SVG}text[@class='end']").text
-    server.check("pictures: any fault", end, "exit status 1: <a&b>]]>\ufffd\ufffd")
-    shutil.rmtree(server.path("charts"))
+    server.check("pictures: any fault", end, "exit status 1: <a&b>]]>\ufffd\xff")
 
 
 # The dump
 
-TABLES = {"MTA": (0x5200, 4, 128), "VFTA": (0x5600, 4, 128), "RAL": (0x5400, 8, 16), "RAH": (0x5404, 8, 16)}
-NAMES = {offset: name for name, offset in REGISTERS.items() if name not in TABLES}
-NAMES |= {begin + step * at: f"{name}_{at}" for name, (begin, step, count) in TABLES.items() for at in range(count)}
 RINGS = ("RDH", "RDT", "TDH", "TDT")
-BASE, SIZE, UNITS = 0xFEB00000, 0x20000, 16
+UNITS = 16
 
 
 def parse_dump(text):
@@ -277,59 +287,46 @@ def changes_of(body, variables, codes):
 
 
 class Wanted:
-    """What a dump must have, by the complete log of its run."""
+    """What a dump must have, by the steps of its run."""
 
-    def __init__(self, log):
+    def __init__(self, steps):
         self.time, self.changes, self.wrong = 0, {}, []
         self.ring = dict.fromkeys([*RINGS, "RDLEN", "TDLEN"], 0)
         for name in ("irq", *RINGS):
             self.note(name, 0)
-        for line in log.splitlines():
-            self.line(line.split(" "))
+        for step in steps:
+            self.step(step)
             for name in RINGS:
                 self.note(name, self.ring[name])
 
     def note(self, name, value):
-        told = self.changes.setdefault(name, [])
-        if not told or told[-1][1] != value:
-            told.append((self.time, value))
+        if not self.changes.get(name) or self.changes[name][-1][1] != value:
+            self.changes.setdefault(name, []).append((self.time, value))
 
     def happen(self, name):
         self.changes.setdefault(name, []).append((self.time, 1))
 
-    def line(self, words):
-        if words[0] == "IRQ":
-            self.note("irq", int(words[1] == "raise"))
-        elif words[0] == "frame":
-            self.happen("frame")
-        elif words[0] == "fault":
-            return  # a dump has the outcome of the step
-        elif words[1] in ("offer", "settle"):
-            return
-        elif words[1] == "mark":
-            self.time += 1
-            self.happen("_".join(words[2:]))
-        elif words[1] in ("step", "arrive", "hold"):
-            if words[-1] != "nothing":
-                self.time += 1
-                self.happen("_".join([words[1], words[-1]] if words[1] != "step" else [words[2], words[-1]]))
-                self.step(words[2], words[-1])
-        else:
+    def step(self, step):
+        if step.is_access():
             self.time = (self.time // UNITS + 1) * UNITS
-            self.access(words[1:])
+            self.access(step)
+        elif step.action in ("raise", "lower"):
+            self.note("irq", int(step.action == "raise"))
+        elif step.action == "frame":
+            self.happen("frame")
+        elif step.action not in ("fault", "choose", "request"):
+            self.time += 1
+            self.happen(step.outcome.replace(" ", "_") if step.action == "mark" else f"{step.action}_{step.outcome}")
+            letter = {"part": "R", "moved": "R", "took": "T"}.get(step.outcome)
+            if letter:
+                self.ring[f"{letter}DH"] = (self.ring[f"{letter}DH"] + 1) % (self.ring[f"{letter}DLEN"] // 16)
 
-    def step(self, kind, outcome):
-        letter = {"part": "R", "moved": "R", "took": "T"}.get(outcome)
-        if letter:
-            self.ring[f"{letter}DH"] = (self.ring[f"{letter}DH"] + 1) % (self.ring[f"{letter}DLEN"] // 16)
-
-    def access(self, words):
-        is_write, offset = not words[0].startswith("read"), int(words[1], 0) - BASE
-        is_register = words[0].endswith("l") and 0 <= offset < SIZE
-        self.happen(f"{'write' if is_write else 'read'}_{'register' if is_register else 'memory'}")
+    def access(self, step):
+        is_write, name, value = step.action == "write", step.name, step.value
+        is_register = name[0].isupper() or name.startswith("register")
+        self.happen(f"{step.action}_{'register' if is_register else 'memory'}")
         if not is_register:
             return
-        name, value = NAMES.get(offset, f"register_{offset:#x}"), int(words[2 if is_write else -1], 0)
         if is_write and name == "CTRL" and value >> 26 & 1:
             self.ring = dict.fromkeys(self.ring, 0)
         if name in RINGS and not is_write and self.ring[name] != value:
@@ -337,7 +334,7 @@ class Wanted:
         if name in self.ring and is_write:
             self.ring[name] = value & (0xFFFF if name in RINGS else 0xFFF80)
         if name not in RINGS:
-            self.note(name, value)
+            self.note(name.replace("[", "_").rstrip("]"), value)
 
 
 def readers(server, name, variables, changes):
@@ -345,7 +342,7 @@ def readers(server, name, variables, changes):
     if not (shutil.which("vcd2fst") and shutil.which("fst2vcd")):
         print(f"dump: {name}: vcd2fst (Debian: package gtkwave) isn't installed: only the parser of the test reads it")
         return
-    folder = server.path("charts")
+    folder = server.folder
     ran = subprocess.run(["vcd2fst", "run.vcd", "run.fst"], cwd=folder, capture_output=True, timeout=LIMIT)
     server.check(f"dump: {name}, vcd2fst", (ran.returncode, ran.stderr), (0, b""))
     ran = subprocess.run(["fst2vcd", "run.fst"], cwd=folder, capture_output=True, timeout=LIMIT)
@@ -355,10 +352,12 @@ def readers(server, name, variables, changes):
     server.check(f"dump: {name}, its changes in GTKWave", others, [])
 
 
-def check_dump(server, name):
+def check_dump(server, name, run):
     """A dump contains the changes of the log. Returns its variables, and its changes by the names of variables."""
-    variables, changes = parse_dump(server.get("charts/run.vcd").decode())
-    wanted = Wanted(server.get("charts/log.txt").decode())
+    text = drawn(server, "--vcd")
+    server.put("run.vcd", text.encode())
+    variables, changes = parse_dump(text)
+    wanted = Wanted(run.steps)
     got = {path.rpartition(".")[2]: told for path, told in changes.items()}
     server.check(f"dump: {name}, heads and tails are what the driver reads", wanted.wrong, [])
     for one, told in got.items():
@@ -380,28 +379,24 @@ def dumps(server):
                                     ("cuts", "2.6 rx before write tx[1]", [*STAGED, "cuts", "cuts"]),
                                     ("eerd", "0.9 hold eeprom before read EERD", [*STAGED, "stages", "eerd"]),
                                     ("all", "", ["sh", "-c", "exec 3<&0; cat requests & exec cat <&3 >answers"])]:
-        status, _, errors = replay(server, schedule, "--any-access", "--out", "charts/", command=command)
-        server.check(f"dump: {name}, it is stored", (status, errors), (PASSES if name == "all" else FOUND, ""))
-        variables, got = check_dump(server, name)
+        variables, got = check_dump(server, name, log_of(server, schedule, command))
         deviations = [time for time, _ in got["deviation"]]
         server.check(f"dump: {name}, its deviations", len(deviations), bool(schedule))
         for at in [(time // UNITS + 1) * UNITS for time in deviations]:  # the access after the deviation
             place = [[value for time, value in got[word] if time <= at][-1] for word in ("round", "access")]
             server.check(f"dump: {name}, the place of its deviation", "{}.{}".format(*place), schedule.split(" ")[0])
     kinds = {tuple(path.split(".")[:-1]): kind for path, kind in variables.items() if kind[0] != "event"}
-    wanted = {"adapter": ("wire", 1), "rings": ("reg", 16), "driver": ("integer", 32), "registers": ("reg", 32),
-              **dict.fromkeys(TABLES, ("reg", 32))}
+    wanted = {"adapter": ("wire", 1), "rings": ("reg", 16), "driver": ("integer", 32),
+              **dict.fromkeys(("registers", "MTA", "VFTA", "RAL", "RAH"), ("reg", 32))}
     server.check("dump: its scopes", kinds, {("race", scope): kind for scope, kind in wanted.items()})
-    shutil.rmtree(server.path("charts"))
 
 
 def dump_of_any_fault(server):
     """A fault with keywords and other characters doesn't end the comment of a dump."""
-    replay(server, "", "--out", "charts/", command=["sh", "-c", "echo 'a $end $var \"b\" \N{EURO SIGN}' >&2; exit 1"])
-    comment = re.findall(r"^\$comment (.*) \$end$", server.get("charts/run.vcd").decode(), re.M)
+    run = log_of(server, "", ["sh", "-c", "echo 'a $end $var \"b\" \N{EURO SIGN}' >&2; exit 1"])
+    comment = re.findall(r"^\$comment (.*) \$end$", drawn(server, "--vcd"), re.M)
     server.check("dump: any fault", comment, ['exit status 1: a ?end ?var "b" ?'])
-    check_dump(server, "any fault")
-    shutil.rmtree(server.path("charts"))
+    check_dump(server, "any fault", run)
 
 
 # The files
@@ -459,38 +454,13 @@ def cuts(server):
         server.check(f"cuts: {count} rows, {stars}", " ".join(told), wanted)
 
 
-def files(server):
-    """`--out` stores a schedule or a folder with charts after a search and a replay, or the finder reports why not."""
-    server.put("small", SMALL.encode())
-    schedule = f"# sh small fails\n# exit status 1: finished too late\n{SMALLEST}".encode()
-    small = ["sh", "small", "fails"]
-    status, out, errors = find(server, "--explore", "2", "--out", "charts/", command=small)
-    first = {name: server.get(f"charts/{name}") for name in sorted(os.listdir(server.path("charts")))}
-    server.check("files: of a search", (status, list(first), errors), (FOUND, FILES, ""))
-    server.check("files: its chart", out.endswith("\n" + first["chart.txt"].decode()), True)
-    server.check("files: its schedule", first["schedule.txt"], schedule)
-    ran, _, errors = replay(server, SMALLEST, "--json", "--out", "charts", command=small)
-    second = {name: server.get(f"charts/{name}") for name in sorted(os.listdir(server.path("charts")))}
-    server.check("files: of a replay, the same", (ran, second == first, errors), (FOUND, True, ""))
-    log = second["log.txt"].decode().splitlines()
-    wanted = [f"# readl 0xFEB02810 -> {0:#018x}", "# step rxdata -> moved", f"# readl 0xFEB02810 -> {1:#018x}",
-              f"# readb 12 -> {0:#018x}", "# step rxdone -> done", f"# readb 12 -> {3:#018x}"]
-    server.check("files: answers in the log", log[5:], wanted)
-    wanted = ["# writel 0xFEB00100 0x8002", f"# arrive {FRAME} -> stored"]
-    server.check("files: a write and an arrival in the log", log[3:5], wanted)
-    replay(server, SMALLEST, "--out", "found", command=small)
-    server.check("files: a schedule alone", server.get("found"), schedule)
-    for path in ("small/", "none/x", "found/"):
-        status, _, errors = replay(server, "", "--out", path, command=["true"])
-        is_told = re.fullmatch(r"races: --out: \S+: [A-Z][a-z ]+\nFor more information, try '--help'.\n",
-                               errors) is not None
-        server.check(f"files: {path} can't be written", (status, is_told), (USAGE, True))
-    shutil.rmtree(server.path("charts"))
+def fields(server):
+    """The texts of descriptors and registers."""
     told = [fields_of(name, len(data) // 2, int.from_bytes(bytes.fromhex(data), "little")) for name, data in FIELDS]
     told += [value_in(register, value) for register, value in VALUES]
-    server.check("files: fields and bits", "".join(f"{one}\n" for one in told), FIELDS_TOLD)
+    server.check("fields and bits", "".join(f"{one}\n" for one in told), FIELDS_TOLD)
 
 
 def all_cases(server):
-    for part in [pages, pictures, dumps, dump_of_any_fault, cuts, files]:
+    for part in [pages, pictures, dumps, dump_of_any_fault, cuts, fields]:
         part(server)

@@ -1,10 +1,9 @@
-"""The finder of races answers `choose N` by its schedule: it explores, draws and shrinks the answers like other
-deviations.
-"""
+"""tools/races answers `choose N` by its schedule: it explores, draws and shrinks the answers like other deviations."""
 
+import json
 import re
 
-from race_finder import ASK, FOUND, FRAME, PASSES, USAGE, find, replay
+from race_finder import ASK, FOUND, FRAME, PASSES, USAGE, find, found_in, replay
 
 # Chooses three numbers below 8. With the argument `fails`, the test fails if the second one is 5 and the third one is
 # above 2.
@@ -37,84 +36,66 @@ ask "readl 0xFEB02810"
 ask "settle"
 case $moment-$causes in 1-*8?) echo "the cause was read too early" >&2; exit 1 ;; esac
 """
-RACE = "1.1 choose 1 before choose\n1.3 rx before read ICR\n"
+RACE = ["1.1 choose 1 before choose", "1.2 rx before read RDH"]
 CHART = """\
    0.3    write --------> RDT 0x1
    0.4    write --------> RCTL 0x8002 EN BAM
                                                                                 stored <-------- 60 bytes, ..0000
 *  1.1    choose 3: 1
-   1.2    read <--------- RDH 0x0
+*                         RDH 0x1                buffer of rx[0] is written <-- rxdata moved
 """
+FAILS, RIGHT = ["sh", "numbers", "fails"], ["sh", "numbers"]
+SMALLEST = ["1.2 choose 5 before choose", "1.4 choose 3 before choose"]
 # Requests whose limits aren't valid. The finder passes them to the server.
 INVALID = ["choose", "choose 0", "choose 1 2", "choose x", "choose 4294967296"]
-
-def text_of(server):
-    """The deviations of the schedule that was found."""
-    text = (server.get("found") or b"").decode()
-    return "".join(line for line in text.splitlines(True) if not line.startswith("#"))
 
 
 def explored(server):
     """All answers are tried, and the smallest numbers with which the test fails are found."""
     server.put("numbers", NUMBERS.encode())
-    status, out, errors = find(server, "--explore", "1", command=["sh", "numbers"])
-    counts = [int(count) for count in re.findall(r"^depth \d+: (\d+) schedules", out, re.M)]
-    server.check("choices: depth 1", (status, counts, errors), (PASSES, [1, 21], ""))
-    status, out, errors = find(server, "--explore", "2", "--out", "found", command=["sh", "numbers", "fails"])
-    server.check("choices: explored", (status, text_of(server), errors),
-                 (FOUND, "1.2 choose 5 before choose\n1.4 choose 3 before choose\n", ""))
-    status, out, errors = find(server, "--explore", "2", "--all", command=["sh", "numbers", "fails"])
-    server.check("choices: all that fail",
-                 (status, len(re.findall(r"; 1\.4 choose \d before choose: exit", out)), errors), (FOUND, 5, ""))
+    result = json.loads(find(server, "--explore", "1", "--json", command=RIGHT)[1])
+    server.check("choices: depth 1", (result["result"], result["search"]["tried"]), ("passes", [1, 21]))
+    status, _, errors = find(server, "--explore", "2", "--out", "found", command=FAILS)
+    server.check("choices: explored", (status, found_in(server), errors), (FOUND, SMALLEST, ""))
+    result = json.loads(find(server, "--explore", "2", "--all", "--json", command=FAILS)[1])
+    failed = [one["schedule"][1] for one in result["search"]["failed"]]
+    server.check("choices: all that fail", failed, [f"1.4 choose {number} before choose" for number in range(3, 8)])
 
 
 def drawn(server):
-    """A drawn run has numbers, and the schedule of one that fails is made as small as the explored one."""
-    words = ["--first", "0", "--runs", "2000", "--smaller", "0", "--out", "found"]
-    status, out, errors = find(server, *words, command=["sh", "numbers", "fails"])
-    server.check("choices: drawn", (status, text_of(server), errors),
-                 (FOUND, "1.2 choose 5 before choose\n1.4 choose 3 before choose\n", ""))
-    status, out, _ = find(server, "--pct", "2", "--runs", "300", "--smaller", "0", "--out", "found",
-                          command=["sh", "numbers", "fails"])
-    server.check("choices: PCT", (status, text_of(server)),
-                 (FOUND, "1.2 choose 5 before choose\n1.4 choose 3 before choose\n"))
+    """A drawn run has numbers, and the schedule of one that fails is made as short as the explored one."""
+    for name, words in [("drawn", ["--runs", "2000"]), ("PCT", ["--pct", "2", "--runs", "300"])]:
+        status, _, errors = find(server, *words, "--out", "found", command=FAILS)
+        second, third = found_in(server)
+        server.check(f"choices: {name}", (status, second, errors), (FOUND, SMALLEST[0], ""))
+        server.holds(f"choices: {name}, the third number", re.fullmatch("1.4 choose [3-7] before choose", third), third)
 
 
 def replayed(server):
-    """Schedules by places and by numbers are replayed. If a number is too great, the answer is 0. Of two answers, the
-    first counts. Invalid schedules are rejected, and another access is reported.
+    """Schedules are replayed. If a number is too great, the answer is 0. Invalid schedules are refused, and another
+    access is reported.
     """
     for name, text, status, last in [
-        ("by places", "1.2 choose 5 before choose\n1.4 choose 7 before choose\n", FOUND, "the numbers are wrong"),
-        ("by numbers", "choose 5 before choose#2\nchoose 3 before choose#3\n", FOUND, "the numbers are wrong"),
-        ("too great", "1.2 choose 8 before choose\n1.4 choose 7 before choose\n", PASSES, "The test passes."),
-        ("two answers", "1.2 choose 5 before choose\n1.2 choose 6 before choose\n1.4 choose 7 before choose\n", FOUND,
-         "the numbers are wrong"),
-    ]:
-        got, out, errors = replay(server, text, command=["sh", "numbers", "fails"])
-        server.check(f"choices: replayed {name}", (got, out.splitlines()[-1].endswith(last), errors),
+            ("right", "1.2 choose 5 before choose\n1.4 choose 7 before choose\n", FOUND, "the numbers are wrong"),
+            ("too great", "1.2 choose 8 before choose\n1.4 choose 7 before choose\n", PASSES, "The test passes.")]:
+        got, out, errors = replay(server, text, command=FAILS)
+        server.check(f"choices: replayed, {name}", (got, out.splitlines()[-1].endswith(last), errors),
                      (status, True, ""))
-    for text, why in [("1.2 rx before choose\n", "only 'choose K' can be before choose, and 'choose K' only there"),
-                      ("1.1 choose 1 before read ICR\n",
-                       "only 'choose K' can be before choose, and 'choose K' only there"),
-                      ("1.2 choose 0 before choose\n", "'choose 0' isn't a deviation")]:
-        status, out, errors = replay(server, text, command=["sh", "numbers"])
-        server.check(f"choices: {text.strip()}", (status, out, why in errors), (USAGE, "", True))
-    status, out, errors = replay(server, "1.3 choose 1 before choose\n", command=["sh", "numbers"])
-    wanted = "at this place, the test makes another access: read STATUS"
-    server.check("choices: another access", wanted in out + errors, True)
+    for text in ("1.2 choose 0 before choose\n", "1.2 choose before choose\n"):
+        status, out, errors = replay(server, text, command=RIGHT)
+        server.check(f"choices: {text.strip()}", (status, out, "line 1: " in errors), (USAGE, "", True))
+    status, out, errors = replay(server, "1.3 choose 1 before choose\n", command=RIGHT)
+    server.check("choices: another access", "at this place, the test makes another access: read STATUS" in out, True)
 
 
 def moments(server):
     """A race that needs the moment of an interrupt and a step: it is found, and has its chart."""
     server.put("moment", MOMENT.encode())
-    status, out, errors = find(server, "--first", "0", "--runs", "500", "--smaller", "0", "--out", "found",
-                               command=["sh", "moment"])
-    server.check("choices: a moment is drawn", (status, text_of(server), errors), (FOUND, RACE, ""))
-    status, out, errors = find(server, "--explore", "2", "--out", "found", command=["sh", "moment"])
-    server.check("choices: a moment is explored", (status, text_of(server), errors), (FOUND, RACE, ""))
-    server.check("choices: its chart", CHART in out, True)
-    status, out, errors = replay(server, RACE, command=["sh", "moment"])
+    for words in (["--runs", "500"], ["--explore", "2"]):
+        status, out, errors = find(server, *words, "--out", "found", command=["sh", "moment"])
+        server.check(f"choices: a moment, {words}", (status, found_in(server), errors), (FOUND, RACE, ""))
+        server.check("choices: its chart", CHART in out, True)
+    status, out, errors = replay(server, "".join(f"{line}\n" for line in RACE), command=["sh", "moment"])
     server.check("choices: its schedule", (status, CHART in out, errors), (FOUND, True, ""))
 
 

@@ -1,29 +1,23 @@
 """Tests the pages of runs: what each step changes, why a run fails, and the files that the programs write.
 
-The states are compared with the server's: what the driver reads, and the rings after each row. race_pages_rules.py
-tests the rules with short logs, and race_pages_browser.py opens pages in Chromium. Node.js runs the scripts of a page
-here; page_script.py.
+The states are compared with what the driver reads, and with the heads and tails that a test reads after each request.
+race_pages_rules.py tests the rules with short logs, and race_pages_browser.py opens pages in Chromium. Node.js runs the
+scripts of a page here; page_script.py.
 """
 
 import os
 import re
 import sys
-from contextlib import closing
 from html.parser import HTMLParser
 from random import Random
 
-from finder.draw import drawing_of
-from finder.names import OF_STEPS
 from finder.log import RunLog, Step, runs_in, text_of as log_text
+from finder.names import OF_STEPS
 from finder.page.c_file import c_file
-from finder.page.from_finder import of_access, of_event, of_run
 from finder.page.write import page, shortened, template
-from finder.schedule import parse
-from finder.target import Target
 from harness import DRIVERS, TOP, not_run, text_of
 from page_script import logic
-from race_finder import FINDER, FOUND, PASSES, SMALL, SMALLEST, USAGE, find, replay
-from server import LIMIT
+from race_finder import FOUND, PASSES, RACES, SMALL, SMALLEST, USAGE, find, replay
 
 STAGED = [sys.executable, "-S", "-E", os.path.join(DRIVERS, "staged_test.py")]
 QUEUE = [sys.executable, "-S", "-E", os.path.join(DRIVERS, "queue_test.py")]
@@ -38,41 +32,44 @@ MOST_BYTES = 200_000  # for 1,000 steps
 EXAMPLE = ["python3", "-S", "examples/drivers/receive_test.py", "wrong"]
 
 
-def run_of(server, command, schedule="", seed=None):
-    """A run of the finder with rows, by a schedule, or as the seed draws it."""
-    with closing(Target(server.program, command, (), LIMIT, 1, False, False)) as target:
-        return target.run(parse(schedule)[1], drawing_of(seed, True) if seed else None)
+DRAWN = "rx", "tx", "rxdata", "rxdone", "txtake", "txput"
+
+
+def run_of(server, command, schedule=""):
+    """The log of a run with a schedule."""
+    out = replay(server, schedule, "--log", "--json", command=command)[1]
+    return runs_in(out)[0]
 
 
 def logs_of(server, command, schedule):
     """The logs of a run with a schedule, and of the run without deviations."""
-    return of_run(run_of(server, command, schedule), "the schedule"), of_run(run_of(server, command), "without")
+    return run_of(server, command, schedule), run_of(server, command)
 
 
-def differ(run):
-    """The first row of a run after which the state isn't what the server reports, with the reasons."""
-    rows = [(row, of_access(row, "driver") if row.place else of_event(row, row.line.split(" "), "driver"))
-            for row in run.rows]
-    rows = [(row, step) for row, step in rows if step]
-    states_of_run = logic().call("states", RunLog("run", steps=tuple(step for _, step in rows)))
-    for (row, _), (wrong, rings) in zip(rows, states_of_run):
-        if wrong or rings != [list(ring) for ring in row.rings]:
-            return row.line, wrong, rings, row.rings
-    return None
+def drawn(run, seed):
+    """A schedule with steps before some accesses of a run, in rounds that other deviations may have changed."""
+    random = Random(seed)
+    places = [step for step in run.steps if step.is_access() and not step.place.startswith("0.")]
+    some = sorted(random.sample(range(len(places)), min(len(places), 12)))
+    return "".join(f"{places[at].place} {random.choice(DRAWN)} before {places[at].action} {places[at].name}\n"
+                   for at in some)
 
 
 def random_states(server):
-    """The same holds for random requests, also with resets, faults, and rings that are moved. The page can be made."""
+    """What random requests read is what the steps before lead to, also with resets, faults, and rings that are moved.
+    The page can be made.
+    """
     outcomes = set()
     for seed in range(1, 25):
-        run = run_of(server, [*RANDOM, str(seed), "400"], seed=seed if seed % 2 else None)
-        server.check(f"random states: seed {seed}", (run.fault, differ(run)), (None, None))
-        log = of_run(run, "random")
-        outcomes |= {(step.action, step.outcome) for step in log.steps if step.actor != "driver"}
-        last = max((one["step"] for one in logic().findings(log)), default=0)
-        texts = logic().call("shownOf", log)["texts"]
-        server.check(f"random states: seed {seed}, its texts", (len(texts), all(texts), last < len(log.steps)),
-                     (len(log.steps), True, True))
+        run = run_of(server, [*RANDOM, str(seed), "400"])
+        if seed % 2:
+            run = run_of(server, [*RANDOM, str(seed), "400"], drawn(run, seed))
+        server.check(f"random states: seed {seed}", (len(run.steps) > 300, logic().wrong(run)), (True, []))
+        outcomes |= {(step.action, step.outcome) for step in run.steps if step.actor != "driver"}
+        last = max((one["step"] for one in logic().findings(run)), default=0)
+        texts = logic().call("shownOf", run)["texts"]
+        server.check(f"random states: seed {seed}, its texts", (len(texts), all(texts), last < len(run.steps)),
+                     (len(run.steps), True, True))
     wanted = {(kind, outcome) for kind, its in OF_STEPS.items() for outcome in its} - {("txput", "wirefull")}
     server.check("random states: all outcomes", wanted - outcomes, set())
     fates = {outcome for action, outcome in outcomes if action == "arrive"}
@@ -80,22 +77,22 @@ def random_states(server):
 
 
 def states(server):
-    """What a driver reads is what the steps before lead to. After each row, the rings are those that the server
-    reports. This holds for drawn runs of drivers without a bug; and no rule finds anything in these runs.
+    """What a driver reads is what the steps before lead to, with drawn schedules of drivers without a bug. No rule
+    finds anything in these runs.
     """
     for command in RIGHT:
-        name = " ".join(command[4:])
+        name, run = " ".join(command[4:]), run_of(server, command)
         for seed in (None, 1, 2, 7):
-            run = run_of(server, command, seed=seed)
-            log = of_run(run, name)
-            server.check(f"states: {name}, seed {seed}", (run.fault, differ(run)), (None, None))
+            one = run_of(server, command, drawn(run, seed)) if seed else run
+            server.check(f"states: {name}, seed {seed}", logic().wrong(one), [])
+            is_right = one.fault is None or "at this place, the test makes" in one.fault
             server.check(f"states: {name}, seed {seed}: no rule finds anything",
-                         (logic().kinds(log), logic().reasons(log)), ([], []))
+                         (is_right, logic().kinds(one), logic().reasons(one._replace(fault=None))), (True, [], []))
 
 
 def frames(server):
     """In the run without deviations, the driver loads DD of each stored frame, and each sent frame is on the wire."""
-    run = of_run(run_of(server, [*STAGED, "stages", "right"]), "right")
+    run = run_of(server, [*STAGED, "stages", "right"])
     cells = {cell: text for cell, text in logic().call("played", run)["cells"].items() if "frame " in cell}
     came = [step for step in run.steps if step.action == "arrive"]
     put = [step for step in run.steps if step.action == "frame"]
@@ -155,7 +152,7 @@ def pairs(server):
         count = min(sum(step.is_access() for step in log.steps) for log in (run, other))
         paired = sum(one.is_access() for one, _ in both)
         server.holds(f"pairs: {name}, most accesses", paired >= least * count, f"{paired} of {count}")
-    same = of_run(run_of(server, [*STAGED, "stages", "late"]), "same")
+    same = run_of(server, [*STAGED, "stages", "late"])
     server.check("pairs: of equal runs", (logic().call("difference", same, same), logic().pairs(same, same)),
                  (None, [(at, at) for at in range(len(same.steps))]))
 
@@ -275,12 +272,12 @@ def files(server):
     small = ["sh", "small", "fails"]
     for name, run in [("search", lambda *words: find(server, "--explore", "2", *words, command=small)),
                       ("replay", lambda *words: replay(server, SMALLEST, *words, command=small))]:
-        plain = run()
         status, out, errors = run("--html", "race.html")
-        server.check(f"files: {name}, the output is the same", (status, out, errors), plain)
+        server.check(f"files: {name}, the output", (status, out.splitlines()[-1], errors),
+                     (FOUND, "The page of this run: race.html", ""))
         ours, other = runs_in(Elements(server.get("race.html").decode()).log)
-        server.check(f"files: {name}, the page", (status, sum(step.is_deviation for step in ours.steps),
-                                                  "finished too late" in ours.fault), (FOUND, 2, True))
+        server.check(f"files: {name}, the page", (sum(step.is_deviation for step in ours.steps),
+                                                  "finished too late" in ours.fault), (2, True))
         server.check(f"files: {name}, beside the run without deviations", other.fault, None)
         server.remove("race.html")
     for path in ("none/x.html", "small/", ".", ""):
@@ -294,9 +291,8 @@ def files(server):
 def example(server):
     """docs/race.html is the page that its command makes."""
     server.put("played", b"3.6 rx before read ICR\n")
-    words = ["--server", server.program, "--replay", server.path("played"), "--html", server.path("race.html"), "--",
-             *EXAMPLE]
-    status, _, errors = server.execute(*FINDER, *words, folder=TOP)
+    words = ["--replay", server.path("played"), "--html", server.path("race.html"), "--", *EXAMPLE]
+    status, _, errors = server.execute(RACES, *words, folder=TOP)
     told = ("echo '3.6 rx before read ICR' | tools/races --replay /dev/stdin --html docs/race.html -- "
             + " ".join(EXAMPLE))
     same = server.get("race.html").decode() == text_of("docs", "race.html")

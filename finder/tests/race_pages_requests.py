@@ -82,6 +82,8 @@ def main(seed, count):
     begin(random)
     for act in random.choices([*CHOICES], [*CHOICES.values()], k=count):
         act(random)
+        for name in ("RDH", "RDT", "TDH", "TDT"):
+            ask(f"readl {REGISTERS + OFFSETS[name]:#x}")
 
 
 main(*map(int, sys.argv[1:]))
