@@ -162,6 +162,20 @@ def jobs(bench):
         bench.check(f"jobs: known states, {depth}: more than one", int(found[0]) > 40, True)
 
 
+def shrinks(bench):
+    """A schedule that another program has recorded is made smaller."""
+    test = [receive(bench), "wrong"]
+    recorded = bench.source("recorded.txt", "# recorded\noptions --missed 0\n3.4 rxdata before write RDT\n"
+                                            "3.6 rxdone before read ICR\n7.6 rx before read ICR\n")
+    status, out, errors = races(bench, "--shrink", recorded, "--", *test)
+    bench.check("shrinks: a race", (status, "2 deviations: exit status 1: frame 1" in out, f"\n{SMALLEST}\n" in out, errors),
+                (FOUND, True, True, ""))
+    bench.check("shrinks: none", races(bench, "--shrink", "/dev/null", "--", *test), (PASSES, "The test passes.\n", ""))
+    far = bench.source("far.txt", "999.1 rx before read ICR\n")
+    bench.check("shrinks: too far", races(bench, "--shrink", far, "--", *test),
+                (USAGE, "", f"races: {far}: line 1: the run doesn't reach this place\n"))
+
+
 def resets(bench):
     """A COMMAND that asks for its next run by `reset` plays many runs in a process, and one from nothing at the end."""
     small, pids = bench.source("small.py", SMALL), os.path.join(bench.folder, "pids")
@@ -235,7 +249,7 @@ def stopped_commands(bench):
 
 def refused_words(bench):
     """Words that are gone say what to use. The options of the adapter are those of `serve`."""
-    for word, part in (("--by-name", "serve --schedule"), ("--shard", "--seed"), ("--shrink", "--replay"),
+    for word, part in (("--by-name", "serve --schedule"), ("--shard", "--seed"),
                        ("--options", "--rxa 2"), ("--server", "serve"), ("--fly", "there is no such option"),
                        ("--jobs", "a number from 1 to 64"), ("--rxa", "even number"), ("--memory", "number")):
         status, out, errors = races(bench, word, "3" if word == "--rxa" else "some", "--", "true")

@@ -12,6 +12,7 @@ enum { MOST_JOBS = 64, MOST_LINE = 1 << 18, MOST_NAME = 160 };
 extern struct races {
     char **command; /* ends with NULL */
     unsigned jobs;
+    const char *shrink; /* the file of a schedule that is made smaller, or NULL */
     const char *rows, *color; /* of its chart */
     uint64_t registers, seed; /* of the server */
 } xr_given;
