@@ -237,20 +237,6 @@ def errors(server):
                  (PASSES, True, b""))
 
 
-def ends(server):
-    """A test may end by a signal or with an error, or never end: the last line of the output names this fault."""
-    for name, command, fault in [
-            ("a signal", ["sh", "-c", "kill -9 $$"], "ended by SIGKILL"),
-            ("its error", ["sh", "-c", "echo a >&2; echo b >&2; exit 3"], "exit status 3: b"),
-            ("never", ["sleep", "1000"], "it doesn't end in 1 second"),
-            ("never, and without output", ["sh", "-c", "exec sleep 1000 >&-"], "it doesn't end in 1 second"),
-            ("without reading", ["sh", "-c", "while echo 'read 0 65536'; do :; done"], "it doesn't end in 1 second")]:
-        status, out, _ = replay(server, "", "--seconds", "1", command=command)
-        server.check(f"ends: {name}", (status, out.splitlines()[-1]), (FOUND, f"   {fault}"))
-    status, out, _ = find(server, command=["sh", "-c", "test -e been && exit 0; touch been; exit 1"])
-    server.check("ends: a test that isn't the same twice", (status, "Does it use a clock" in out), (NOT_RUN, True))
-
-
 def talks(server):
     """Without deviations, a test gets the same answers as from the server, and the log if it asks for it. Its
     `interleave` is answered, but plays no steps.
@@ -282,5 +268,5 @@ def talks(server):
 
 
 def all_cases(server):
-    for part in [talks, replays, errors, ends, explored, drawn, holds, bugs, page, right]:
+    for part in [talks, replays, errors, explored, drawn, holds, bugs, page, right]:
         part(server)

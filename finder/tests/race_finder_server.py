@@ -18,7 +18,7 @@ from server import LIMIT
 STORED = """
 import os, runpy, sys
 os.environ.pop("NIC_MARKS", None)
-stored = open(sys.argv[1], "wb")
+stored = open(sys.argv[1], "wb", buffering=0)
 
 class Reader:
     def __init__(self, stream):
@@ -62,10 +62,10 @@ def command_of(server, test):
 
 
 def taken(server):
-    """Returns what a test has stored, and removes the file."""
-    stored = server.get("stored")
+    """Returns what a test has stored up to its request `reset`, and removes the file. A server refuses this request."""
+    stored = server.get("stored") or b""
     server.remove("stored")
-    return stored
+    return re.sub(rb"(FAIL unknown\n)?exit status .*\n\Z", b"", stored)
 
 
 def direct(server, command, *words):
