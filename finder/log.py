@@ -22,8 +22,8 @@ class LogError(Exception):
 
 
 class Step(NamedTuple):
-    """A step of a run. A size that isn't known is 0, and other values are None. In a page, `data` has the first bytes of
-    a long access, or the last bytes of a frame.
+    """A step of a run. A size that isn't known is 0, and other values are None. In a page, `data` has the first bytes
+    of a long access, or the last bytes of a frame.
     """
     actor: str
     action: str

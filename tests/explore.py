@@ -17,7 +17,7 @@ import sys
 from harness import TOP, Ended, Program, not_run, test_all, words_of_script
 from page_script import logic
 from explorer_builds import builds, lies
-from explorer_commands import (commands, ended_commands, jobs, languages, refused_words, resets,
+from explorer_commands import (commands, ended_commands, jobs, languages, refused_words, resets, shrinks,
                                stopped_commands)
 from explorer_devices import check_devices
 from explorer_draws import by_priorities
@@ -259,18 +259,16 @@ def all_that_fail(bench):
 
 
 def races(bench):
-    """With --pipe, tools/races plays tests of the explorer: `late` fails with the same schedule, and is shown in a
-    chart. The right driver passes.
+    """With --pipe, tools/races plays tests of the explorer: `late` fails with the same schedule. The right driver
+    passes.
     """
-    schedule = bench.source("late.txt", "4.6 rxdone before read ICR\n")
-    finder = [sys.executable, "-S", os.path.join(TOP, "tools", "races"), "--server", bench.program]
-    status, out, errors = bench.run(*finder, "--replay", schedule, "--", bench.stages, "late", "--pipe")
-    bench.check("races: late", (status, out.splitlines()[-1:], errors),
-                (FOUND, ["   exit status 1: frame 1 was never received"], ""))
-    bench.check("races: its chart", "*  " in out and "rx[1] is written back" in out, True)
+    schedule, env = bench.source("late.txt", "4.6 rxdone before read ICR\n"), {"RACES_LIBRARY": bench.library}
+    finder = [os.path.join(TOP, "tools", "races"), "--replay"]
+    got = bench.run(*finder, schedule, "--", bench.stages, "late", "--pipe", env=env)
+    bench.check("races: late", got, (FOUND, "exit status 1: frame 1 was never received\n", ""))
     for name in ("right", "cuts:right", "offers:right"):
-        status, out, errors = bench.run(*finder, "--replay", "/dev/null", "--", bench.stages, name, "--pipe")
-        bench.check(f"races: {name}", (status, out.splitlines()[-1:], errors), (PASSES, ["   The test passes."], ""))
+        got = bench.run(*finder, "/dev/null", "--", bench.stages, name, "--pipe", env=env)
+        bench.check(f"races: {name}", got, (PASSES, "The test passes.\n", ""))
 
 
 def drawn(bench):
@@ -477,8 +475,9 @@ def make(folder):
     return bench
 
 
-PARTS = (counts, commands, languages, jobs, resets, ended_commands, stopped_commands, refused_words, searching, passes, calls, kept, builds, lies, hooks, untold, schedules, endless, enumerated, bugs,
-         all_that_fail, by_priorities, races, drawn, logs, arguments, left_behind, results, pages, pointers, devices,
-         rust, lab, course, every)
+PARTS = (counts, searching, passes, calls, kept, builds, lies, hooks, untold, schedules, endless, enumerated, bugs,
+         all_that_fail, by_priorities, races, commands, languages, jobs, shrinks, resets, ended_commands,
+         stopped_commands, refused_words, drawn, logs, arguments, left_behind, results, pages, pointers, devices, rust,
+         lab, course, every)
 
 test_all(make, PARTS)

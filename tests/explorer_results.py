@@ -288,9 +288,8 @@ def handlers(bench, stopped, looks):
     bench.check("handlers: the log", (wanted in out,
                                       out.count("the handler cuts in") == out.count("the handler returns")),
                 (True, True))
-    finder = [sys.executable, "-S", os.path.join(TOP, "tools", "races"), "--server", bench.program, "--replay",
-              schedule, "--rows", "all"]
-    out = bench.run(*finder, "--", mine, "--pipe")[1]
+    races = [os.path.join(TOP, "tools", "races"), "--replay", schedule, "--rows", "all"]
+    out = bench.run(*races, "--", mine, "--pipe")[1]
     wanted = out.splitlines()[-1:], out.count("the handler cuts in") == out.count("the handler returns") > 0
     bench.check("handlers: the chart", wanted, (["   The test passes."], True))
 

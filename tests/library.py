@@ -87,9 +87,10 @@ def names(library):
     outcomes = re.findall(r"^    NIC_(\w+),?", header[header.index("NIC_NOTHING"):header.index("/* The fates")], re.M)
     library.check("the outcomes in Python", [name.upper() for name in nic82540em.OUTCOMES], ["NOTHING", *outcomes])
     finder = runpy.run_path(os.path.join(TOP, "finder", "names.py"))
-    library.check("the steps of the finder of races", sorted(finder["STEP_KINDS"]), sorted(nic82540em.KINDS))
-    library.check("its outcomes", sorted(finder["OUTCOMES"]), sorted(nic82540em.OUTCOMES))
-    library.check("its fates", sorted(finder["FATES"]), sorted(nic82540em.FATES))
+    library.check("the steps of charts", sorted(finder["OF_STEPS"]), sorted(nic82540em.KINDS))
+    outcomes = {"nothing"}.union(*finder["OF_STEPS"].values())
+    library.check("their outcomes", sorted(outcomes), sorted(nic82540em.OUTCOMES))
+    library.check("the fates of charts", sorted(finder["FATES"]), sorted(nic82540em.FATES))
 
 
 def events_that_wait(library):

@@ -122,7 +122,7 @@ def page(server):
 
 def right(server):
     """The right driver fails in none of 150 drawn runs."""
-    status, out, errors = find(server, "--runs", "150", command=EXCHANGE)
+    status, out, errors = find(server, "--runs", "150", "--all", command=EXCHANGE)
     server.check("right: no run fails", (status, out.startswith("150 runs, ") and "\nno run fails\n" in out, errors),
                  (PASSES, True, ""))
 
@@ -220,8 +220,9 @@ def errors(server):
             (["--runs", "x"], "--runs: its value isn't a number, or is too great"),
             (["--fly"], "--fly: there is no such option"), (["runs"], "runs: write -- before COMMAND"),
             (["--rows", "few"], "--rows: its value is near or all"),
-            (["--color", "red"], "--color: its value is auto, always or never"), (["--jobs", "0"], "--jobs: its value is"),
-            (["--rxa", "3"], "--rxa: its value is an even number"), (["--by-name"], "--by-name: schedules have places")]:
+            (["--color", "red"], "--color: its value is auto, always or never"),
+            (["--jobs", "0"], "--jobs: its value is"), (["--rxa", "3"], "--rxa: its value is an even number"),
+            (["--by-name"], "--by-name: schedules have places")]:
         status, out, told = find(server, *words, command=["true"])
         server.check(f"errors: {words}", (status, out, told.startswith(f"races: {wanted}"), told.endswith(more)),
                      (USAGE, "", True, True))
@@ -234,20 +235,6 @@ def errors(server):
     helped = subprocess.run([RACES, "--help"], capture_output=True, timeout=LIMIT)
     server.check("errors: the help", (helped.returncode, helped.stdout.startswith(b"Finds races"), helped.stderr),
                  (PASSES, True, b""))
-
-
-def ends(server):
-    """A test may end by a signal or with an error, or never end: the last line of the output names this fault."""
-    for name, command, fault in [
-            ("a signal", ["sh", "-c", "kill -9 $$"], "ended by SIGKILL"),
-            ("its error", ["sh", "-c", "echo a >&2; echo b >&2; exit 3"], "exit status 3: b"),
-            ("never", ["sleep", "1000"], "it doesn't end in 1 second"),
-            ("never, and without output", ["sh", "-c", "exec sleep 1000 >&-"], "it doesn't end in 1 second"),
-            ("without reading", ["sh", "-c", "while echo 'read 0 65536'; do :; done"], "it doesn't end in 1 second")]:
-        status, out, _ = replay(server, "", "--seconds", "1", command=command)
-        server.check(f"ends: {name}", (status, out.splitlines()[-1]), (FOUND, f"   {fault}"))
-    status, out, _ = find(server, command=["sh", "-c", "test -e been && exit 0; touch been; exit 1"])
-    server.check("ends: a test that isn't the same twice", (status, "Does it use a clock" in out), (NOT_RUN, True))
 
 
 def talks(server):
@@ -281,5 +268,5 @@ def talks(server):
 
 
 def all_cases(server):
-    for part in [talks, replays, errors, ends, explored, drawn, holds, bugs, page, right]:
+    for part in [talks, replays, errors, explored, drawn, holds, bugs, page, right]:
         part(server)

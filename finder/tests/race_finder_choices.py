@@ -1,6 +1,7 @@
 """tools/races answers `choose N` by its schedule: it explores, draws and shrinks the answers like other deviations."""
 
 import json
+import re
 
 from race_finder import ASK, FOUND, FRAME, PASSES, USAGE, find, found_in, replay
 
@@ -62,10 +63,12 @@ def explored(server):
 
 
 def drawn(server):
-    """A drawn run has numbers, and the schedule of one that fails is made as small as the explored one."""
+    """A drawn run has numbers, and the schedule of one that fails is made as short as the explored one."""
     for name, words in [("drawn", ["--runs", "2000"]), ("PCT", ["--pct", "2", "--runs", "300"])]:
         status, _, errors = find(server, *words, "--out", "found", command=FAILS)
-        server.check(f"choices: {name}", (status, found_in(server), errors), (FOUND, SMALLEST, ""))
+        second, third = found_in(server)
+        server.check(f"choices: {name}", (status, second, errors), (FOUND, SMALLEST[0], ""))
+        server.holds(f"choices: {name}, the third number", re.fullmatch("1.4 choose [3-7] before choose", third), third)
 
 
 def replayed(server):

@@ -36,16 +36,15 @@ def languages():
 
 
 def sessions(text):
-    """Yields the commands with the finder in a text, each with the output that is shown."""
+    """Yields the commands of tools/races in a text, each with the output that is shown."""
     for block in re.findall(r"^```\n(\$ tools/races .*?)^```$", text, re.M | re.S):
         yield from re.findall(r"^\$ (.*)\n((?:(?!\$ ).*\n)*)", block, re.M)
 
 
 def top_folder(server):
-    """A folder with the program that is tested, in which the commands of the pages can run."""
+    """A folder in which the commands of the pages can run."""
     folder = server.path("top")
     os.makedirs(os.path.join(folder, ".build"))
-    os.symlink(server.program, os.path.join(folder, ".build", "nicbench"))
     for name in ("tools", "examples", "finder"):
         os.symlink(os.path.join(TOP, name), os.path.join(folder, name))
     return folder
@@ -68,10 +67,11 @@ def builds(server, folder, language, build):
 
 
 def shown(server, folder, name, command, wanted):
-    """A command prints what a page shows. Its exit status is 1 if it runs the wrong driver, and otherwise 0."""
+    """A command prints what a page shows. Its exit status is 1 if the run fails, and otherwise 0."""
     status, out, errors = run(folder, command)
+    fails = command.endswith(" wrong") or "at this place" in wanted
     server.check(f"languages: {name}: {command}", (follow(without_rate(out), without_rate(wanted)), status, errors),
-                 (True, FOUND if command.endswith(" wrong") else PASSES, ""))
+                 (True, FOUND if fails else PASSES, ""))
 
 
 def page(server, folder, language, command):
@@ -116,7 +116,7 @@ def answer(adapter, request, frames, instead):
 
 
 def played(server, folder, command, instead):
-    """Runs a test without the finder. `instead` has the frames that arrive instead of a frame, by the frame's number.
+    """Runs a test without tools/races. `instead` has the frames that arrive instead of a frame, by the frame's number.
 
     Returns the exit status, the errors and the frames of the test.
     """
@@ -134,7 +134,7 @@ def played(server, folder, command, instead):
 def faults(server, folder, language, command):
     """A test fails if a frame is lost, doubled, reordered or changed, or isn't stored."""
     status, errors, frames = played(server, folder, f"{command} right", {})
-    server.check(f"languages: {language} passes without the finder", (status, errors), (0, ""))
+    server.check(f"languages: {language} passes alone", (status, errors), (0, ""))
     server.check(f"languages: {language}: its frames", [len(frame) // 2 for frame in frames], SIZES)
     server.check(f"languages: {language}: its frames differ", len(set(frames)), len(SIZES))
     last = len(SIZES) - 1

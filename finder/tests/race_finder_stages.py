@@ -1,4 +1,4 @@
-"""Runs the finder of races on the tests of examples/drivers: the table of examples/drivers/README.md, and the drivers
+"""Runs tools/races on the tests of examples/drivers: the table of examples/drivers/README.md, and the drivers
 without a bug in `stages` and `cuts`. Also tests words that name no test or driver.
 """
 
@@ -8,82 +8,54 @@ import subprocess
 import sys
 
 from harness import TOP
-from race_finder import EXCHANGE, FOUND, PASSES, find, replay
+from race_finder import EXCHANGE, FOUND, PASSES, find, found_in, replay
 from server import LIMIT
 from server_pages import read_page
 
 from driver import ARRIVAL_BUGS, BUGS, MORE_BUGS, QUEUE, RESET_BUGS, RIGHT
 
 STAGED = [sys.executable, "-S", "-E", os.path.join(TOP, "examples", "drivers", "staged_test.py")]
-HEADING = "| Bug | Test | Options | Seed | Schedule |"
-# Bugs whose schedules the finder finds again here, each with the options of the search. The search for other bugs takes
-# longer.
-AGAIN = {"late": ["--explore", "1"], "length": ["--explore", "1"], "masks-late": ["--explore", "1"],
-         "cuts": ["--runs", "1"], "rxo": ["--explore", "1"],
-         "clears": ["--explore", "1"], "mpc": ["--explore", "1"]}
+HEADING = "| Bug | Test | Options | Schedule |"
+# Bugs whose schedules are found again here. The search for other bugs takes longer.
+AGAIN = "late", "length", "masks-late", "cuts", "clears", "mpc"
 # For a bug of another driver than `right`: the driver without this bug, which passes the schedule that shows it.
 RIGHT_OF = {"offers-queued": "queue"}
 RIGHT_SEEDS = 20
-# Draws the schedules of the seeds 1 to argv[4] until one fails. Prints this seed, or `none`. Doesn't shrink the
-# schedule.
-DRAW = """
-import sys
-sys.dont_write_bytecode = True
-sys.path.insert(0, sys.argv[1])
-from finder.draw import drawing_of
-from finder.target import Target
-options = sys.argv[3].removeprefix("--options=").split() if sys.argv[3].startswith("--options=") else []
-target = Target(sys.argv[2], sys.argv[5:], options, seconds=60)
-for seed in range(1, int(sys.argv[4]) + 1):
-    if target.run(draw=drawing_of(seed, sys.argv[3] == "--holds")).fault:
-        print(seed)
-        break
-else:
-    print("none")
-"""
 
 
 def rows():
-    """Yields the rows of the table: a bug, its test, options of the finder, the seed, and the deviations."""
+    """Yields the rows of the table: a bug, its test, options, and the deviations."""
     found = re.search(rf"^{re.escape(HEADING)}\n\|[-|]+\n((?:\|.*\n)+)", read_page("examples", "drivers", "README.md"),
                       re.M)
     for line in found[1].splitlines() if found else ():
-        bug, test, options, seed, schedule = (cell.strip() for cell in line.strip("|").split("|"))
-        yield bug.strip("`"), test.strip("`"), options.strip("`").split(), seed, re.findall("`(.*?)`", schedule)
-
-
-def first_seed(server, options, seeds, command):
-    """The first seed up to `seeds` that fails, or `none`; and what the runs wrote to standard error."""
-    words = [TOP, server.program, *(options or ["-"]), str(seeds), *command]
-    ran = subprocess.run([sys.executable, "-S", "-E", "-c", DRAW, *words], capture_output=True, timeout=10 * LIMIT)
-    return ran.stdout.decode().strip(), ran.stderr.decode()
+        bug, test, options, schedule = (cell.strip() for cell in line.strip("|").split("|"))
+        yield bug.strip("`"), test.strip("`"), options.strip("`").split(), re.findall("`(.*?)`", schedule)
 
 
 def table(server):
-    """Each bug is found first with the seed of its row. Its schedule shows it, and no smaller one does. The driver
-    without the bug passes the schedule.
+    """The schedule of each row shows its bug, and no smaller one does. The driver without the bug fails with it only if
+    it makes another access there.
     """
     seen = []
-    for bug, test, options, seed, deviations in rows():
+    for bug, test, options, deviations in rows():
         seen.append(bug)
         command, right = [*STAGED, test, bug], [*STAGED, test, RIGHT_OF.get(bug, "right")]
         text = "".join(f"{line}\n" for line in deviations)
-        server.check(f"table: {bug}, its first seed", first_seed(server, options, int(seed), command), (seed, ""))
         server.check(f"table: {bug} needs at most one deviation", len(deviations) <= 1, True)
+        options = [one for one in options if one != "--holds"]
         status, out, errors = replay(server, text, *options, command=command)
         is_fault = out.endswith("\n") and out.splitlines()[-1].startswith("   exit status 1: ")
         server.check(f"table: {bug} is shown by its schedule", (status, is_fault, errors), (FOUND, True, ""))
-        server.check(f"table: {bug}, each deviation is played", re.findall("did nothing|doesn't reach", out), [])
         if deviations:
             server.check(f"table: {bug} isn't shown without a deviation", replay(server, "", command=command)[::2],
                          (PASSES, ""))
-        status, out, errors = replay(server, text, *options, "--any-access", command=right)
-        server.check(f"table: right passes the schedule of {bug}", (status, out.splitlines()[-1:], errors),
-                     (PASSES, ["   The test passes."], ""))
+        _, out, errors = replay(server, text, *options, command=right)
+        end = out.splitlines()[-1:] == ["   The test passes."] or "at this place, the test makes another access" in out
+        server.check(f"table: right passes the schedule of {bug}", (end, errors), (True, ""))
         if bug in AGAIN:
-            status, _, errors = find(server, *AGAIN[bug], "--out", "found", command=command)
-            found = (server.get("found") or b"").decode().splitlines()[2:]
-            server.check(f"table: the schedule of {bug} is found", (status, found, errors), (FOUND, deviations, ""))
+            status, _, errors = find(server, "--explore", "1", "--out", "found", command=command)
+            server.check(f"table: the schedule of {bug} is found", (status, len(found_in(server)), errors),
+                         (FOUND, 1, ""))
             server.remove("found")
     server.check("table: its bugs", seen, [*BUGS, *MORE_BUGS, *ARRIVAL_BUGS, *RESET_BUGS])
 
@@ -92,15 +64,18 @@ def right_drivers(server):
     """The drivers without a bug pass with each of some seeds, also if steps of the EEPROM and the PHY are left out."""
     for name in RIGHT:
         for test in ("stages", "cuts"):
-            server.check(f"right: {name} passes {test}", first_seed(server, [], RIGHT_SEEDS, [*STAGED, test, name]),
-                         ("none", ""))
+            words = ["--runs", str(RIGHT_SEEDS), "--all"]
+            status, out, errors = find(server, *words, command=[*STAGED, test, name])
+            server.check(f"right: {name} passes {test}", (status, "\nno run fails\n" in out, errors),
+                         (PASSES, True, ""))
     schedule = "".join(f"58.0 {action} before settle\n" for action in ("tx", "tx", "rxdone"))
     for name in ("right", "pool"):
         got = replay(server, schedule, command=[*STAGED, "cuts", name])
         server.check(f"right: {name}: an answer is sent after the last settle",
                      (got[0], got[1].splitlines()[-1:], got[2]), (PASSES, ["   The test passes."], ""))
-    server.check("right: right passes stages with holds",
-                 first_seed(server, ["--holds"], 2, [*STAGED, "stages", "right"]), ("none", ""))
+    status, out, errors = find(server, "--runs", "2", "--all", "--holds", command=[*STAGED, "stages", "right"])
+    server.check("right: right passes stages with holds", (status, "\nno run fails\n" in out, errors),
+                 (PASSES, True, ""))
 
 
 def usage(server):

@@ -12,7 +12,7 @@ import termios
 from finder.chart import COLUMNS, ChartRow, chart_of, end_of, text_chart
 from finder.terminal import Look, chart_on
 from harness import TOP
-from race_finder import FINDER, FOUND, SMALL, SMALLEST, USAGE, find, replay
+from race_finder import FOUND, RACES, SMALL, SMALLEST, find, replay
 from race_pages import QUEUE, STAGED, TXSTOP, logs_of
 from server import LIMIT
 
@@ -81,11 +81,11 @@ def colors(server):
     """Colors are on a terminal only, unless --color, NO_COLOR or TERM say otherwise. Files have none."""
     server.put("small", SMALL.encode())
     server.put("played", SMALLEST.encode())
-    words = [*FINDER, "--server", server.program, "--replay", "played"]
+    words = [RACES, "--replay", "played"]
     command = ["--", "sh", "small", "fails"]
     plain = replay(server, SMALLEST, command=command[1:])[1]
     for name, options, env, has_color in [("auto", [], {}, True), ("never", ["--color", "never"], {}, False),
-                                          ("always", ["--color=always"], {}, True),
+                                          ("always", ["--color", "always"], {}, True),
                                           ("NO_COLOR", [], {"NO_COLOR": "1"}, False),
                                           ("an empty NO_COLOR", [], {"NO_COLOR": ""}, True),
                                           ("TERM", [], {"TERM": "dumb"}, False),
@@ -97,13 +97,8 @@ def colors(server):
     stars = [line for line in told if "*" in line]
     server.check("colors: deviations", [line.startswith("\x1b[33m*") for line in stars], [True, True])
     server.check("colors: the end", told[-1], "\x1b[31m   exit status 1: finished too late\x1b[0m")
-    ran = find(server, "--replay", "played", "--color", "always", "--out", "charts/", command=command[1:])
+    ran = find(server, "--replay", "played", "--color", "always", command=command[1:])
     server.check("colors: always, not on a terminal", (ESCAPE.sub("", ran[1]), "\x1b" in ran[1]), (plain, True))
-    files = [name for name in os.listdir(server.path("charts")) if b"\x1b" in server.get(f"charts/{name}")]
-    server.check("colors: files", files, [])
-    ran = find(server, "--color", "red", command=["true"])
-    server.check("colors: another word", (ran[0], ran[2].splitlines()[:1]),
-                 (USAGE, ["races: --color: use auto, always or never"]))
     narrow = on_terminal(server, [*words, *command], 60)[1].splitlines()
     server.check("colors: a narrow terminal", [line for line in narrow if len(ESCAPE.sub("", line)) > 60], [])
 

@@ -450,7 +450,7 @@ int xi_replay_given(void)
     xi_steps_open(found->path, found->count);
     xi_replay(found->path, found->count, true, &lack);
     is_unreached = !lack.text[0] && lack.unreached < found->count;
-    if (lack.text[0])
+    if (lack.text[0] && !xi_steps)
         xi_say("%s\n", lack.text);
     found->fails = xi_state->fault != NULL;
     if (found->fails)

@@ -24,6 +24,7 @@ static const char help[] =
     "  --jobs N             N runs at once, at most 64 (default: the number of processors)\n"
     "  --seconds N          a run that doesn't end in N seconds fails (default 10)\n"
     "  --replay FILE        plays one schedule; with --log, prints each access and each step\n"
+    "  --shrink FILE        plays one schedule, and if it fails, makes it smaller\n"
     "  --out PATH           stores the schedule that was found in this file, or in schedule.txt of a folder PATH/\n"
     "  --html FILE          stores a page of the run that was found or replayed, for a browser\n"
     "  --rows near|all      the rows of the chart of this run: near the deviations, by default, or all\n"
@@ -50,7 +51,6 @@ static const struct { const char *name, *instead; } gone[] = {
     { "--to", "--explore tries all places" },
     { "--first", "drawn runs begin with all schedules of one deviation; --explore 1 tries these alone" },
     { "--smaller", "all schedules with fewer deviations are tried; --seconds and Ctrl-C end a search" },
-    { "--shrink", "use --replay to play a schedule, and --explore to find the smallest one" },
     { "--apart", "each run has a new process, unless COMMAND asks for its next run by `reset`" },
     { "--no-digest", "known states are only used where they are compared in full" },
     { "--options", "give the options of the adapter themselves, such as --rxa 2" },
@@ -140,17 +140,19 @@ static bool is_of_chart(const char *word, const char *value)
 static bool takes(char **words, int *n, int end)
 {
     const char *word = words[*n], *value = *n + 1 < end ? words[*n + 1] : NULL;
-    bool is_jobs = !strcmp(word, "--jobs");
+    bool is_jobs = !strcmp(word, "--jobs"), is_shrink = !strcmp(word, "--shrink");
 
     refuse_gone(word);
     if (is_of_chart(word, value))
         return ++*n, true;
-    if (!is_jobs && !xr_is_option(word))
+    if (!is_jobs && !is_shrink && !xr_is_option(word))
         return false;
     if (!value)
         refuse(word, "it has no value");
     if (is_jobs)
         take_jobs(value);
+    else if (is_shrink)
+        xr_given.shrink = value;
     else
         xr_take_option(word, value);
     ++*n;
@@ -181,6 +183,8 @@ void xr_take_words(int count, char **words)
         refuse("--", "COMMAND is missing");
     xr_given.command = words + end + 1;
     name_command();
-    if (xi_given.replay)
-        xr_take_schedules_options(xi_given.replay);
+    if (xr_given.shrink && (xi_given.replay || xi_given.depth != DRAWN))
+        refuse("--shrink", "it goes without --replay and --explore");
+    if (xi_given.replay || xr_given.shrink)
+        xr_take_schedules_options(xi_given.replay ? xi_given.replay : xr_given.shrink);
 }

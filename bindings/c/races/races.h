@@ -1,5 +1,6 @@
-/* What the sources of tools/races share: a search over the runs of a COMMAND, which sends lines of `nicbench serve` through
- * a pipe. Each line is answered in this process, and before some of them, the search lets the adapter take steps. */
+/* What the sources of tools/races share: a search over the runs of a COMMAND, which sends lines of `nicbench serve`
+ * through a pipe. Each line is answered in this process, and before some of them, the search lets the adapter take
+ * steps. */
 #ifndef RACES_H
 #define RACES_H
 
@@ -12,6 +13,7 @@ enum { MOST_JOBS = 64, MOST_LINE = 1 << 18, MOST_NAME = 160 };
 extern struct races {
     char **command; /* ends with NULL */
     unsigned jobs;
+    const char *shrink; /* the file of a schedule that is made smaller, or NULL */
     const char *rows, *color; /* of its chart */
     uint64_t registers, seed; /* of the server */
 } xr_given;
