@@ -210,6 +210,9 @@ def passes(bench):
     bench.check("passes: late, served", (status, out.splitlines()[-1], errors), (FOUND, wanted, ""))
     status, result, errors = result_of(bench, test, "overrun", "--explore", "every")
     bench.check("passes: overrun", (status, result["result"], errors), (PASSES, "passes", ""))
+    high = bench.source("found", "0.13 choose 3 before choose\n")
+    out = bench.run(test, "choose", "--replay", high, "--log")[1]
+    bench.check("passes: an answer of three is at most 2", len(re.findall(r" choose 0$", out, re.M)), 3)
 
 
 def calls(bench):

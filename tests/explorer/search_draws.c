@@ -27,7 +27,7 @@ static void fixed_table(void)
 static size_t draw_place(struct schedule_draw *draw, uint64_t possible, bool is_request, const int *uses,
                          uint8_t *drawn)
 {
-    struct schedule_site site = { possible, 0, is_request };
+    struct schedule_site site = { possible, 0, is_request, 0 };
     int left[64];
     size_t count = 0;
 
@@ -174,7 +174,7 @@ static void count_event(uint32_t *priorities, const uint32_t *changes, unsigned 
             priorities[group] = n + 1;
 }
 
-static uint32_t wanted_action(const uint32_t *priorities, const int *left, bool must_wait)
+static uint32_t wanted_action(const uint32_t *priorities, const int *left, uint32_t runs, bool must_wait)
 {
     static const int group_of[4] = { 2, 3, 1, 1 };
     int first = -1;
@@ -182,7 +182,7 @@ static uint32_t wanted_action(const uint32_t *priorities, const int *left, bool 
     for (int n = 0; n < 4; n++)
         if (left[n] && (first < 0 || priorities[group_of[n]] >= priorities[group_of[first]]))
             first = n;
-    if (first < 0 || (!must_wait && priorities[group_of[first]] <= priorities[0]))
+    if (first < 0 || (!must_wait && priorities[group_of[first]] <= priorities[runs]))
         return SCHEDULE_NONE;
     return (uint32_t)first;
 }
@@ -197,7 +197,8 @@ static void play_priorities(struct schedule_draw *draw)
 
     memcpy(priorities, draw->priorities, sizeof priorities), memcpy(changes, draw->changes, sizeof changes);
     for (int place = 0; place < 30; place++) {
-        struct schedule_site site = { 0xF, place < 12 ? 5 : below(3), false };
+        uint32_t named = place < 20 ? 0 : below(GROUPS + 1), runs = named < GROUPS ? named : 0;
+        struct schedule_site site = { 0xF, place < 12 ? 5 : below(3), false, named < GROUPS ? named : 64 };
         reads = site.poll ? site.poll == last ? reads + 1 : 1 : 0, last = site.poll;
         bool must_wait = reads && reads % 4 == 0;
         schedule_search_draw_place(draw, &site);
@@ -206,9 +207,9 @@ static void play_priorities(struct schedule_draw *draw)
             for (int n = 0; n < 4; n++)
                 possible |= (uint64_t)(left[n] > 0) << n;
             uint32_t action = schedule_search_draw_next(draw, table, table_size, possible);
-            same("an action by priority", action, wanted_action(priorities, left, must_wait));
+            same("an action by priority", action, wanted_action(priorities, left, runs, must_wait));
             must_wait = false;
-            count_event(priorities, changes, &events, action == SCHEDULE_NONE ? 0 : group_of[action]);
+            count_event(priorities, changes, &events, action == SCHEDULE_NONE ? (int)runs : group_of[action]);
             if (action == SCHEDULE_NONE)
                 break;
             left[action]--;

@@ -62,6 +62,30 @@ static uint32_t actor_of(int action)
     return action < (int)xi_device->kinds && !xi_is_clock(action) ? xi_device->engines[action] : SCHEDULE_FREE;
 }
 
+static uint32_t drawn_as(int action)
+{
+    if (action >= CHOICE)
+        return SCHEDULE_ANSWER;
+    if (action == LATE_IRQ || xi_is_clock(action))
+        return SCHEDULE_QUARTER;
+    if (action >= HOLD)
+        return SCHEDULE_HALF;
+    return action < (int)xi_device->kinds || (action == ARRIVAL && xi_device->arrive) ? SCHEDULE_ENGINE
+                                                                                      : SCHEDULE_UNDRAWN;
+}
+
+/* The group of an action in bursts and by priorities. The fetching and the putting of frames by the 82540EM are two. */
+static uint32_t group_of(int action)
+{
+    static const uint32_t of_nic[] = { 2, 3, 1, 1 };
+
+    if (action == IRQ)
+        return HANDLER;
+    if (drawn_as(action) != SCHEDULE_ENGINE)
+        return SCHEDULE_NONE;
+    return action == ARRIVAL ? WIRE : xi_is_nic() ? of_nic[action] : 1 + xi_device->engines[action];
+}
+
 /* Takes the names and the table of the actions from the device. */
 void xi_know_actions(void)
 {
@@ -69,8 +93,7 @@ void xi_know_actions(void)
     for (int n = 0; n < ACTIONS; n++) {
         const struct x_pair *pair = n >= PAIR && n < HOLD ? pair_of(n) : NULL;
         xi_table[n] = (struct schedule_action){ actor_of(n), pair ? pair->first : SCHEDULE_NONE,
-                                                pair ? pair->second : SCHEDULE_NONE,
-                                                n >= CHOICE ? SCHEDULE_ANSWER : SCHEDULE_UNDRAWN, SCHEDULE_NONE };
+                                                pair ? pair->second : SCHEDULE_NONE, drawn_as(n), group_of(n) };
     }
 }
 
@@ -97,7 +120,7 @@ uint64_t xi_here(bool with_holds)
 {
     if (B->event == CALL)
         return BIT(LATE_IRQ);
-    return (xi_may_cut_in() ? BIT(IRQ) : 0) | (B->event == PAUSE ? 0 : steps_here(with_holds));
+    return (S->handler && xi_may_cut_in() ? BIT(IRQ) : 0) | (B->event == PAUSE ? 0 : steps_here(with_holds));
 }
 
 /* Takes the default steps of this place, up to the first one that may be held. Returns the mask of its hold; 0 if there

@@ -1,151 +1,114 @@
-/* Draws schedules, and plays given ones. */
+/* Draws schedules: crates/search decides what is done at each place.
+ *
+ * By priorities (--pct), the handler is an actor, too: it can go when the line is asserted, and while it runs, the
+ * driver can't go. If the driver has the higher priority at the end of an access, the handler is late: after one more
+ * access, only the handler can go.
+ */
 #include "inside.h"
-#include <stdio.h>
 #include <stdlib.h>
-#include <string.h>
 
 #define B xi_book
 #define S xi_state
+#define BIT(action) ((uint64_t)1 << (action))
 
-enum { MOST_IN_BURST = 64, ROUND = 8, MOST_STEPS = X_KINDS + 1 };
 static struct saved first_round; /* before the request that begins round 1 */
-static uint64_t random_state;
+static struct schedule_draw run, clocks; /* the draws of a run; those of holds, and of early steps of clocks */
 struct pct xi_pct;
-static int steps[MOST_STEPS]; /* that are drawn: of the engines, and ARRIVAL */
-static unsigned step_count, engine_steps;
 
-static uint64_t draw(void)
+/* Removes the saved state from which runs are drawn. */
+void xi_forget_first_round(void)
 {
-    uint64_t x = random_state += 0x9E3779B97F4A7C15;
-
-    x = (x ^ x >> 30) * 0xBF58476D1CE4E5B9, x = (x ^ x >> 27) * 0x94D049BB133111EB;
-    return x ^ x >> 31;
+    free(first_round.bytes);
+    first_round = (struct saved){ 0 };
 }
 
-/* A random number below `end` */
-unsigned xi_below(unsigned end)
+/* Begins the draws of the run of a seed. */
+static void begin(uint64_t seed, bool with_holds)
 {
-    return (unsigned)((draw() >> 32) * end >> 32);
+    uint32_t mode = xi_pct.depth ? SCHEDULE_PCT : seed % 2 ? SCHEDULE_BURSTS : SCHEDULE_UNIFORM;
+
+    xi_table[IRQ].drawn = xi_pct.depth ? SCHEDULE_ENGINE : SCHEDULE_HALF;
+    schedule_search_draw(&run, &(struct schedule_drawing){ mode, xi_pct.depth, xi_pct.events, GROUPS, seed, 0 });
+    if (with_holds)
+        schedule_search_draw(&clocks, &(struct schedule_drawing){ SCHEDULE_UNIFORM, 0, 0, 0, seed, 1 });
 }
 
-/* Takes the steps of the engines from the device. */
-static void know_steps(void)
+static uint32_t next_of_clocks(uint64_t possible)
 {
-    step_count = engine_steps = 0;
-    for (int kind = 0; kind < (int)xi_device->kinds; kind++)
-        if (!xi_is_clock(kind))
-            steps[step_count++] = kind, engine_steps |= 1u << kind;
-    if (xi_device->arrive)
-        steps[step_count++] = ARRIVAL;
+    return possible ? schedule_search_draw_next(&clocks, xi_table, ACTIONS, possible) : SCHEDULE_NONE;
 }
 
-/* What would do something here: a bit for each kind of step, and one for ARRIVAL. */
-static unsigned possible_here(void)
+/* Draws which default steps of this place are held, and then which steps of clocks are early. */
+static void draw_clocks(void)
 {
-    if (!step_count)
-        know_steps();
-    return (xi_possible() & engine_steps) | (unsigned)(S->offered < S->offers.count) << ARRIVAL;
-}
+    uint64_t hold;
+    uint32_t early;
 
-/* Plays each step of an engine, and an arrival of an offered frame, with probability 1/2, in a random order, if it is
- * possible then. */
-static void uniform(void)
-{
-    int order[MOST_STEPS];
-    uint64_t bits = draw();
-    unsigned possible = possible_here();
-
-    memcpy(order, steps, sizeof order);
-    for (unsigned n = step_count - 1; n > 0; n--) {
-        unsigned m = xi_below(n + 1);
-        int kept = order[n];
-        order[n] = order[m], order[m] = kept;
+    for (; (hold = xi_next_hold(true)) != 0; B->stage++) {
+        schedule_search_draw_place(&clocks, &(struct schedule_site){ hold, 0, false, DRIVER });
+        if (next_of_clocks(hold) == SCHEDULE_NONE)
+            xi_play(xi_clock[B->stage]);
+        else
+            xi_deviate((int)(HOLD + B->stage));
     }
-    for (unsigned n = 0; n < step_count; n++)
-        if (bits >> n & 1 && possible >> order[n] & 1) {
-            xi_deviate(order[n]);
-            possible = possible_here();
-        }
+    schedule_search_draw_place(&clocks, &(struct schedule_site){ 0, 0, false, DRIVER });
+    while ((early = next_of_clocks(xi_here(true) & xi_device->clocks)) != SCHEDULE_NONE)
+        xi_deviate((int)early);
 }
 
-/* The actor of bursts to which a step belongs. Of the 82540EM: the fetching of frames, the putting of frames, the receive
- * engine, and the wire. Of another device: the engine, or the wire. */
-static unsigned actor_of(int step)
+/* Equal for reads of one register or address, and 0 at other places */
+static uint64_t poll_here(void)
 {
-    static const unsigned of_nic[] = { 0, 1, 2, 2 };
-
-    return step == ARRIVAL ? xi_is_nic() ? 3 : X_KINDS : xi_is_nic() ? of_nic[step] : xi_device->engines[step];
+    return B->event == READ ? 1 + 2 * B->address : B->event == LOAD ? 2 + 2 * B->address : 0;
 }
 
-/* Some of the actors do all their work, at most 64 steps in all. */
-static void burst(void)
+/* What may be drawn here. By priorities, at the end of an access, the handler is about to go. */
+static uint64_t drawable(bool with_holds)
 {
-    uint64_t who = draw();
+    if (xi_pct.depth && B->event == CALL)
+        return BIT(IRQ);
+    return xi_here(with_holds) & ~(xi_device->clocks | (BIT(HOLD) - BIT(PAIR)));
+}
 
-    for (int n = 0; n < MOST_IN_BURST; n++) {
-        unsigned possible = possible_here();
-        int working[MOST_STEPS], count = 0;
-        for (unsigned k = 0; k < step_count; k++)
-            if (who >> actor_of(steps[k]) & 1 && possible >> steps[k] & 1)
-                working[count++] = steps[k];
-        if (!count)
+/* Whether something may be drawn now. By priorities, the driver's turn counts, too. Otherwise, only those steps are
+ * drawn that were chosen for the place: without them, no call is needed. */
+static bool is_turn(uint64_t possible)
+{
+    if (xi_pct.depth || possible >> PAIR)
+        return true;
+    return run.settings.mode == SCHEDULE_UNIFORM ? possible & run.chosen & run.left : possible && run.chosen;
+}
+
+/* Draws from the beginning of the table that has all steps and all that is possible: a shorter table is faster. */
+static uint32_t next_of_run(uint64_t possible)
+{
+    uint64_t steps = (BIT(xi_device->kinds) - 1) & ~(uint64_t)xi_device->clocks;
+    uint64_t actions = xi_pct.depth ? possible : possible | steps;
+    size_t count = actions ? 64 - (size_t)__builtin_clzll(actions) : 0;
+
+    return schedule_search_draw_next(&run, xi_table, count, possible);
+}
+
+/* Draws what is done at this place. */
+static void draw_here(bool with_holds)
+{
+    uint64_t possible = drawable(with_holds);
+    bool is_call = xi_pct.depth && B->event == CALL, is_inside = S->handlers;
+    uint32_t action;
+
+    if (possible || xi_pct.depth)
+        schedule_search_draw_place(&run, &(struct schedule_site){ possible, poll_here(), B->event >= ARRIVE,
+                                                                  is_inside ? HANDLER : DRIVER });
+    while (is_turn(possible) && (action = next_of_run(possible)) != SCHEDULE_NONE) {
+        if (is_call)
             return;
-        xi_deviate(working[xi_below((unsigned)count)]);
+        xi_deviate((int)action);
+        if (xi_ends_place((int)action))
+            return;
+        possible = drawable(with_holds);
     }
-}
-
-/* Draws whether the handler cuts in here, or is put off. Returns whether it cuts in: then this place comes again. */
-static bool draw_interrupt(void)
-{
-    if (B->event == CALL && draw() % 4 == 0)
+    if (is_call && !is_inside)
         xi_deviate(LATE_IRQ);
-    return xi_may_cut_in() && draw() & 1 && xi_deviate(IRQ);
-}
-
-/* Draws the answer to x_choose, and, with holds, whether the step of x_step is left out. */
-static void draw_answer(bool with_holds)
-{
-    bool is_step = B->event == STEP && B->address < xi_device->kinds && xi_possible() >> B->address & 1;
-    unsigned choice = B->event == CHOOSE ? xi_below((unsigned)B->address) : 0;
-
-    if (choice)
-        xi_deviate(CHOICE + (int)choice - 1);
-    else if (with_holds && is_step && draw() % 4 == 0)
-        xi_deviate(HOLD_STEP);
-}
-
-/* With holds, a step of the EEPROM or of the PHY may also be early. */
-static void draw_fast(void)
-{
-    for (unsigned n = 0; n < xi_clocks; n++)
-        if (B->event != CALL && B->event != PAUSE && xi_possible() >> xi_clock[n] & 1 && draw() % 4 == 0)
-            xi_deviate((int)xi_clock[n]);
-}
-
-static void draw_here(uint64_t seed)
-{
-    uint64_t chance;
-
-    if (!possible_here() || B->event == CALL || B->event == PAUSE)
-        return;
-    chance = draw();
-    if (B->event >= ARRIVE && chance >> 32 & (ROUND - 1))
-        return;
-    if (seed % 2 == 0)
-        uniform();
-    else if ((chance & 15) == 0)
-        burst();
-}
-
-static void draw_holds(void)
-{
-    for (; B->stage < xi_clocks; B->stage++)
-        if (xi_possible() >> xi_clock[B->stage] & 1) {
-            if (draw() & 1)
-                xi_deviate((int)(HOLD + B->stage));
-            else
-                xi_play(xi_clock[B->stage]);
-        }
 }
 
 /* Plays the run up to the request that begins round 1, or to the run's end */
@@ -153,16 +116,43 @@ static void to_first_round(bool with_holds)
 {
     while (xi_next_place(), B->event != ENDED && B->round == 0)
         if (with_holds)
-            draw_holds(), draw_fast();
+            draw_clocks();
         else
             xi_tick();
 }
 
-/* Removes the saved state from which runs are drawn. */
-void xi_forget_first_round(void)
+/* Plays the run of a seed. With --pct, deviations are drawn by priorities. Otherwise, an even seed draws steps before
+ * each access, and an odd seed draws bursts. Up to round 1, only holds and early steps of clocks are drawn. */
+void xi_draw(uint64_t seed, bool with_holds, bool is_new)
 {
-    free(first_round.bytes);
-    first_round = (struct saved){ 0 };
+    begin(seed, with_holds);
+    if (!is_new && !with_holds && first_round.bytes)
+        xi_restore(&first_round);
+    else {
+        xi_begin(is_new);
+        to_first_round(with_holds);
+        if (xi_saves && !is_new && !with_holds)
+            xi_save(&first_round);
+    }
+    for (; B->event != ENDED; xi_next_place()) {
+        if (with_holds)
+            draw_clocks();
+        xi_tick();
+        if (xi_searches)
+            xi_digest(); /* this also clears what a search clears */
+        draw_here(with_holds);
+    }
+}
+
+/* The actors of the test: the driver, the groups of the device's steps, and the wire and the handler, if it has them */
+static unsigned count_actors(void)
+{
+    uint64_t groups = 0;
+
+    for (int n = 0; n < ARRIVAL; n++)
+        if (xi_table[n].drawn == SCHEDULE_ENGINE)
+            groups |= BIT(xi_table[n].group);
+    return 1 + (unsigned)__builtin_popcountll(groups) + xi_has_offered + xi_has_handler;
 }
 
 /* From now on, runs are drawn by PCT of this depth. Counts the actors, and the events of the run without deviations. */
@@ -174,99 +164,16 @@ void xi_set_pct(unsigned depth)
     to_first_round(false);
     for (before = B->places + B->moves; B->event != ENDED; xi_next_place())
         xi_tick();
-    xi_pct = (struct pct){ depth, PCT_ACTORS - !xi_has_offered - !xi_has_handler, B->places + B->moves - before };
+    xi_pct = (struct pct){ depth, count_actors(), B->places + B->moves - before };
 }
 
-/* Plays the run of a seed. With --pct, deviations are drawn by priorities. Otherwise, an even seed draws steps before
- * each access, and an odd seed draws a burst before an access with probability 1/16. Before a request, both draw with
- * an eighth of their probability. A handler that may cut in does so with probability 1/2, and is late with probability
- * 1/4. Answers to x_choose are drawn evenly. Up to round 1, only holds are drawn. */
-void xi_draw(uint64_t seed, bool with_holds, bool is_new)
+/* The bound of PCT: each run finds a race of this depth with a probability of at least 1 divided by this number. Groups
+ * without an actor in this test have priorities, too, but don't change the order of the others. */
+double xi_bound(void)
 {
-    random_state = seed * 0x2545F4914F6CDD1D;
-    if (!is_new && !with_holds && first_round.bytes)
-        xi_restore(&first_round);
-    else {
-        xi_begin(is_new);
-        to_first_round(with_holds);
-        if (xi_saves && !is_new && !with_holds)
-            xi_save(&first_round);
-    }
-    if (xi_pct.depth)
-        xi_pct_begin(xi_pct.depth, xi_pct.events);
-    for (; B->event != ENDED; xi_next_place()) {
-        if (with_holds)
-            draw_holds(), draw_fast();
-        xi_tick();
-        if (xi_searches)
-            xi_digest(); /* this also clears what a search clears */
-        if (!xi_pct.depth)
-            draw_here(seed);
-        if (!(xi_pct.depth ? xi_pct_here() : draw_interrupt()))
-            draw_answer(with_holds);
-    }
-}
+    double bound = xi_pct.actors;
 
-static bool is_hold(const struct deviation *one, unsigned stage)
-{
-    return one->action == (int)(HOLD + stage);
-}
-
-static bool is_here(const struct deviation *one)
-{
-    return one->round == B->round && one->access == B->access && one->sub == B->sub;
-}
-
-/* If this deviation names another access or request than the one here, notes it. */
-static void compare_place(const struct deviation *one, struct lack *lack)
-{
-    char name[32], wanted[32];
-    struct place here = xi_place();
-    size_t size;
-
-    xi_name(name, sizeof name, &here), xi_name(wanted, sizeof wanted, &one->before);
-    if (!strcmp(name, wanted))
-        return;
-    xi_text(lack->text, sizeof lack->text, one), size = strlen(lack->text);
-    snprintf(lack->text + size, sizeof lack->text - size, ": at this place, the test makes another access: %s", name);
-}
-
-/* Plays the default steps and the deviations of a place, those after an interrupt or an answer excepted. Returns the
- * index of the first later deviation. `lack` gets the first deviation that names another access. */
-static unsigned play_here(const struct deviation *path, unsigned at, unsigned count, struct lack *lack)
-{
-    unsigned end = at;
-
-    while (end < count && is_here(&path[end]) && (end == at || !xi_ends_place(path[end - 1].action)))
-        end++;
-    for (unsigned n = at; lack && !lack->text[0] && n < end; n++)
-        compare_place(&path[n], lack);
-    for (; B->stage < xi_clocks; B->stage++) {
-        bool is_held = false;
-        for (unsigned n = at; n < end; n++)
-            is_held |= is_hold(&path[n], B->stage);
-        if (is_held && xi_possible() >> xi_clock[B->stage] & 1)
-            xi_deviate((int)(HOLD + B->stage));
-        else if (xi_possible() >> xi_clock[B->stage] & 1)
-            xi_play(xi_clock[B->stage]);
-    }
-    for (unsigned n = at; n < end; n++)
-        if (!is_hold(&path[n], 0) && !is_hold(&path[n], 1))
-            xi_deviate(path[n].action);
-    return end;
-}
-
-/* Plays a schedule. If `lack` isn't NULL, it gets the first deviation that doesn't agree with the run, or an empty
- * text. */
-void xi_replay(const struct deviation *path, unsigned count, bool is_new, struct lack *lack)
-{
-    unsigned at = 0;
-
-    if (lack)
-        *lack = (struct lack){ "", count };
-    xi_begin(is_new);
-    for (xi_next_place(); B->event != ENDED; xi_next_place())
-        at = play_here(path, at, count, lack);
-    if (lack)
-        lack->unreached = at;
+    for (unsigned n = 1; n < xi_pct.depth; n++)
+        bound *= xi_pct.events;
+    return bound;
 }

@@ -12,13 +12,15 @@ enum {
     MOST_OPTIONS = 32, MOST_ANSWERS = 16, MOST_PLACES = 100000
 };
 /* What may be done before an access or a request: steps of the device, by their kinds; the arrival of an offered frame;
- * pairs of steps; holds of its clocks; and what follows. CHOICE is the answer 1 to x_choose, CHOICE + 1 the answer 2, and
- * so on. DEFAULT is no deviation. At a place, actions are tried in the order of their numbers. */
+ * pairs of steps; holds of its clocks; and what follows. CHOICE is the answer 1 to x_choose, CHOICE + 1 the answer 2,
+ * and so on. DEFAULT is no deviation. At a place, actions are tried in the order of their numbers. */
 enum { PAIRS = 2, CLOCKS = 2 };
 enum {
     ARRIVAL = X_KINDS, PAIR, HOLD = PAIR + PAIRS, IRQ = HOLD + CLOCKS, LATE_IRQ, HOLD_STEP, CHOICE,
     ACTIONS = CHOICE + MOST_ANSWERS - 1, DEFAULT = -1
 };
+/* The groups of actions in bursts and by priorities. Those of the device's steps have the numbers from 1 to X_KINDS. */
+enum { DRIVER, WIRE = X_KINDS + 1, HANDLER, GROUPS };
 /* The kinds of places. LINE: the test looks at the line. INTERRUPTS_OFF to HANDLER_ON: the handler is kept out, let in,
  * removed, or given. CALL: the handler is about to cut in after an access. PAUSE: in x_settle, after a step that asserts
  * the line. From LINE to PAUSE, a place has no number of its own in a round: it is counted after the last access, such
@@ -346,19 +348,21 @@ extern bool (*xi_has_key)(void); /* whether the state here can be compared, thou
 extern int (*xi_share)(uint8_t *actions, int count); /* what keeps the options of this process, or NULL */
 void xi_count_tried(double *tried);
 void xi_keep(struct found *found);
-unsigned xi_below(unsigned end);
 extern struct pct {
     unsigned depth, actors, events; /* the depth of PCT, or 0; events of a run without deviations, from round 1 on */
 } xi_pct;
 void xi_set_pct(unsigned depth);
+double xi_bound(void);
 void xi_draw(uint64_t seed, bool with_holds, bool is_new);
-/* What doesn't agree with a run that is replayed: a text, and the first deviation whose place the run doesn't reach */
+void xi_forget_first_round(void);
+
+/* replay.c: given schedules. A lack is what doesn't agree with a run that is replayed: a text, and the first deviation
+ * whose place the run doesn't reach */
 struct lack {
     char text[128];
     unsigned unreached;
 };
 void xi_replay(const struct deviation *path, unsigned count, bool is_new, struct lack *lack);
-void xi_forget_first_round(void);
 
 /* shrink.c: smaller schedules that fail */
 void xi_shrink(struct found *found);
@@ -377,12 +381,6 @@ extern struct given {
 extern char xi_command[1024]; /* the words of the test */
 extern char xi_options_line[512]; /* the options of the adapter that a command has, as words */
 void xi_take_words(int count, char **words);
-
-/* pct.c: draws by priorities */
-enum { PCT_ACTORS = 6 };
-double xi_bound(void);
-void xi_pct_begin(unsigned depth, unsigned events);
-bool xi_pct_here(void);
 
 /* fresh.c: runs in memory as it was before the first run */
 extern bool xi_is_fresh; /* whether this process plays one such run */

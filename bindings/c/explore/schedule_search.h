@@ -95,7 +95,8 @@ size_t schedule_search_options(const struct schedule_action *actions, size_t cou
 /* What determines the draws of a run. UNIFORM: before each access, each action of an engine with probability 1/2, in a
  * random order. BURSTS: before one access of 16, a random set of groups does all its work, at most 64 actions. PCT:
  * probabilistic concurrency testing. The group with the highest priority goes first, and of a group the possible action
- * with the highest number; at `depth` - 1 random events, the group of the event gets a priority below all first ones.
+ * with the highest number; at `depth` - 1 random events, the group of the event gets a priority below all first ones. The
+ * driver is group 0. Its events are places; at places of a handler that has cut in, the handler's group is in its place.
  * `depth` is at most 16, `events` the number of places and actions of a run without deviations, and `groups` the number
  * of groups with the driver's, at most 64. Only PCT uses these three. Before requests that begin a round, UNIFORM and
  * BURSTS draw only one time in 8. */
@@ -108,16 +109,19 @@ struct schedule_site {
     uint64_t possible; /* the actions that would do something when the place is reached */
     uint64_t poll;     /* 0 if the place is no read; otherwise equal for reads of one register or address */
     bool is_request;   /* the place is a request that begins a round */
+    uint32_t runs;     /* the group that runs at the place: 0, or that of a handler that has cut in */
 };
 /* The draws of a run: only the calls change these. */
 struct schedule_draw {
     struct schedule_drawing settings;
     uint64_t state, stream; /* of a generator PCG32 */
-    uint64_t left, chosen;
+    uint64_t left;          /* the actions that may still be drawn at this place */
+    uint64_t chosen;        /* those of engines (UNIFORM), or the groups (BURSTS), that were chosen for this place */
     uint32_t phase, burst;
     uint32_t priorities[64], changes[16], event, reads;
     uint64_t poll;
     bool must_wait;
+    uint32_t runs;
 };
 
 /* Begins the draws of a run. At each place, the caller calls schedule_search_draw_place, and then does what

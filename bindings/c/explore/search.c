@@ -222,16 +222,23 @@ static unsigned runs_from_here(void)
     return ++known_met <= FIRST_KNOWN ? xi_saves ? RUNS_EACH : 1 : PART_KNOWN * played_places <= met_count;
 }
 
-/* Plays on to the end of the run, by options that are drawn. */
+/* Plays on to the end of the run. One of the options of each choice or none is drawn, like an answer. */
 static void play_on(void)
 {
+    static const struct schedule_action options[MOST_OPTIONS] = {
+        [0 ... MOST_OPTIONS - 1] = { 0, SCHEDULE_NONE, SCHEDULE_NONE, SCHEDULE_ANSWER, SCHEDULE_NONE }
+    };
     unsigned most = is_every ? MOST_PATH : search.depth, places = B->places;
     uint8_t actions[MOST_OPTIONS];
+    struct schedule_draw draw;
     int count;
 
+    schedule_search_draw(&draw, &(struct schedule_drawing){ SCHEDULE_UNIFORM, 0, 0, 0, 0, xi_played_on });
     while ((count = next_choice(actions)) != 0 && !xi_stopped()) {
-        unsigned last = (unsigned)count, option = B->path_count < most ? xi_below(last + 1) : last;
-        take(option < last ? actions[option] : DEFAULT);
+        uint64_t possible = B->path_count < most ? ((uint64_t)1 << count) - 1 : 0;
+        schedule_search_draw_place(&draw, &(struct schedule_site){ 0, 0, false, 0 });
+        uint32_t option = schedule_search_draw_next(&draw, options, MOST_OPTIONS, possible);
+        take(option == SCHEDULE_NONE ? DEFAULT : actions[option]);
     }
     played_places += B->places - places, xi_played_on++;
 }

@@ -31,13 +31,11 @@ static uint32_t peek(uint32_t offset)
 /* A ring has advanced, or its tail was written. */
 void xi_see_ring(bool sends, bool is_step)
 {
-    uint32_t from = sends ? NIC_TDBAL - NIC_RDBAL : 0, slots, head, tail;
+    uint32_t from = sends ? NIC_TDBAL - NIC_RDBAL : 0, slots = B->rings[sends][2] / 16, head, tail;
 
-    if (seen.wrapped[sends] && seen.full[sends])
+    if (!slots || (seen.wrapped[sends] && seen.full[sends]))
         return;
-    slots = peek(from + NIC_RDLEN) / 16, head = peek(from + NIC_RDH), tail = peek(from + NIC_RDT);
-    if (!slots)
-        return;
+    head = peek(from + NIC_RDH), tail = peek(from + NIC_RDT);
     seen.has[sends] = true;
     seen.wrapped[sends] |= is_step && head == 0;
     seen.full[sends] |= sends ? (tail + 1) % slots == head : is_step && head == tail;
@@ -89,36 +87,63 @@ static struct kind *kind_of(struct place place)
     return NULL;
 }
 
-/* The run has come to a place. A place that was seen before is found quickly. */
+/* A place that was seen before is found quickly. `knows_deviation`: so was a deviation before it. */
+static struct seen_place {
+    uint64_t address;
+    uint32_t rings[2][3];
+    bool is_seen, knows_deviation;
+} seen_places[ENDED][64];
+
+static struct seen_place *seen_here(void)
+{
+    return &seen_places[B->event][B->address * 0x9E3779B97F4A7C15u >> 58];
+}
+
+/* As memcmp, but without a call: it is needed at each place. */
+static bool is_equal(const void *one, const void *other)
+{
+    uint64_t a[3], b[3];
+
+    _Static_assert(sizeof a == sizeof B->rings, "the rings are three words");
+    memcpy(a, one, sizeof a), memcpy(b, other, sizeof b);
+    return !((a[0] ^ b[0]) | (a[1] ^ b[1]) | (a[2] ^ b[2]));
+}
+
+static bool is_here(const struct seen_place *seen_place)
+{
+    return seen_place->is_seen && seen_place->address == B->address && is_equal(seen_place->rings, B->rings);
+}
+
+/* The run has come to a place. */
 void xi_see_place(void)
 {
-    static struct {
-        uint64_t address;
-        uint32_t rings[2][3];
-        bool is_seen;
-    } seen_places[ENDED][64], *seen_place;
+    struct seen_place *seen_place;
     struct kind *kind;
 
-    if (B->event == ENDED)
-        return;
-    seen_place = &seen_places[B->event][B->address / 4 % 64];
-    if (seen_place->is_seen && seen_place->address == B->address &&
-        !memcmp(seen_place->rings, B->rings, sizeof B->rings))
+    if (B->event == ENDED || is_here(seen_place = seen_here()))
         return;
     kind = kind_of(xi_place());
     if (kind)
         kind->is_later |= B->round > 0;
-    seen_place->address = B->address, seen_place->is_seen = B->round > 0;
+    seen_place->address = B->address, seen_place->is_seen = B->round > 0, seen_place->knows_deviation = false;
     memcpy(seen_place->rings, B->rings, sizeof B->rings);
 }
 
 /* A deviation has done something before the place at which the run is. */
 void xi_see_deviation(void)
 {
-    struct kind *kind = B->event == ENDED ? NULL : kind_of(xi_place());
+    struct seen_place *seen_place;
+    struct kind *kind;
 
+    if (B->event == ENDED)
+        return;
+    seen_place = seen_here();
+    if (is_here(seen_place) && seen_place->knows_deviation)
+        return;
+    kind = kind_of(xi_place());
     if (kind)
         kind->has_deviation = true;
+    seen_place->knows_deviation = is_here(seen_place);
 }
 
 /* Calls a function with each kind of places, for another process. */

@@ -56,3 +56,13 @@ pub record GoesBefore (priorities : Priorities) (actions : List Action) (other f
 abbrev pub GoesFirst : Priorities → List Action → ℕ → ℕ → ℕ → Type 0
 GoesFirst priorities actions possible count first =
     (other : ℕ) → is_waiting actions possible count other ≡ true → GoesBefore priorities actions other first
+
+-- the group that runs at a place: the driver's is 0
+abbrev pub running : Priorities → ℕ
+running priorities = if nat_lt priorities.runs 64 then priorities.runs else 0
+
+-- An action goes first, and before the group that runs: its priority is higher, or the place waits for another group.
+pub record GoesNext (priorities : Priorities) (actions : List Action) (possible count first : ℕ) : Type 0 where
+  pub goes_first : GoesFirst priorities actions possible count first
+  pub overtakes : priorities.must_wait ≡ false
+      → slice_index priorities.groups (running priorities) < priority_of priorities actions first

@@ -2,7 +2,7 @@
 
 ghost use Rattle.std.specs.Prelude.{◌≡◌, ◌≢◌, ◌≤◌, ◌+◌};
 ghost use Rattle.search.specs.Actions.{action_in};
-ghost use Rattle.search.specs.Draws.{AreFewer, GoesFirst, IsDrawable, IsTaken};
+ghost use Rattle.search.specs.Draws.{AreFewer, GoesNext, IsDrawable, IsTaken};
 ghost use Rattle.search.specs.Generators.{generator_of};
 
 use crate::actions::{ANSWER, Action, ENGINE, NONE};
@@ -47,9 +47,9 @@ pub extern "C" fn schedule_search_draw_next(
     ensures burst { result ≢ NONE → (action_in actions.now result).drawn ≡ ENGINE → draw.old.settings.mode ≡ BURSTS
         → (draw.new.burst ≡ draw.old.burst + 1) × (draw.new.burst ≤ MOST_IN_BURST) }
 
-    // By priorities, the group with the highest one goes first.
+    // By priorities, the group with the highest one goes first, if that is above the priority of the group that runs.
     ensures highest { result ≢ NONE → (action_in actions.now result).drawn ≡ ENGINE → draw.old.settings.mode ≡ PCT
-        → GoesFirst draw.old.priorities actions.now possible draw.old.settings.groups result }
+        → GoesNext draw.old.priorities actions.now possible draw.old.settings.groups result }
 
     // After an answer, or after `NONE`, nothing more is drawn at this place.
     ensures answer { result ≢ NONE → (action_in actions.now result).drawn ≡ ANSWER → draw.new.phase ≡ 4 }

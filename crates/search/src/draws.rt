@@ -2,7 +2,7 @@
 
 ghost use Rattle.std.specs.Prelude.{◌≡◌, ◌≢◌, ◌<◌, ◌≤◌, ◌+◌, true};
 ghost use Rattle.search.specs.Actions.{action_in, is_possible};
-ghost use Rattle.search.specs.Draws.{AreFewer, GoesFirst, IsDrawable, IsDrawn, IsTaken};
+ghost use Rattle.search.specs.Draws.{AreFewer, GoesNext, IsDrawable, IsDrawn, IsTaken};
 ghost use Rattle.search.specs.Generators.{generator_of};
 
 use crate::actions::{ANSWER, Action, ENGINE, HALF, MOST_ACTIONS, NONE, QUARTER};
@@ -63,6 +63,8 @@ pub struct Site {
     pub poll: u64,
     /// Whether the place is a request that begins a round.
     pub is_request: bool,
+    /// The group that runs at this place: 0 for the driver, or that of a handler that has cut in.
+    pub runs: u32,
 }
 
 /// The draws of a run, and where it is.
@@ -133,7 +135,7 @@ pub fn draw_place(draw: &mut Draw, site: Site)
     draw.left = u64::MAX;
     draw.phase = QUARTERS;
     draw.burst = 0;
-    see_place(&mut draw.priorities, site.poll);
+    see_place(&mut draw.priorities, site.poll, site.runs);
 }
 
 /// Draws the smallest action of a kind with probability 1 / `one_in`, or else the next one, and so on. No action is
@@ -180,7 +182,11 @@ fn draw_uniform(
 {
     let engines = of_kind(actions, chosen, ENGINE);
     for _turn in 0..MOST_ACTIONS {
-        let next = draw_from(generator, both(*left, engines));
+        let waiting = both(*left, engines);
+        if waiting == 0 {
+            return NONE;
+        }
+        let next = draw_from(generator, waiting);
         if next == NONE {
             return NONE;
         }
@@ -198,7 +204,11 @@ fn draw_working(generator: &mut Generator, chosen: u64, actions: &[Action], poss
     ensures group { result ≢ NONE → is_possible chosen (action_in actions.now result).group ≡ true }
 {
     let engines = of_kind(actions, possible, ENGINE);
-    draw_from(generator, of_groups(actions, engines, chosen))
+    let working = of_groups(actions, engines, chosen);
+    if working == 0 {
+        return NONE;
+    }
+    draw_from(generator, working)
 }
 
 /// Draws one of the answers or none, each with the same probability.
@@ -231,7 +241,7 @@ fn draw_engine(draw: &mut Draw, actions: &[Action], possible: u64) -> u32
     ensures burst { result ≢ NONE → draw.old.settings.mode ≡ BURSTS
         → (draw.new.burst ≡ draw.old.burst + 1) × (draw.new.burst ≤ MOST_IN_BURST) }
     ensures highest { result ≢ NONE → draw.old.settings.mode ≡ PCT
-        → GoesFirst draw.old.priorities actions.now possible draw.old.settings.groups result }
+        → GoesNext draw.old.priorities actions.now possible draw.old.settings.groups result }
     ensures same { (draw.new.settings ≡ draw.old.settings) × (draw.new.phase ≡ draw.old.phase) }
     ensures unchanged { result ≡ NONE → draw.new.burst ≡ draw.old.burst }
 {
@@ -272,7 +282,7 @@ fn draw_phase(draw: &mut Draw, actions: &[Action], possible: u64) -> u32
         → (draw.new.burst ≡ draw.old.burst + 1) × (draw.new.burst ≤ MOST_IN_BURST) }
     ensures highest { result ≢ NONE → (action_in actions.now result).drawn ≡ ENGINE → draw.old.settings.mode ≡ PCT
         → (draw.old.phase ≡ ENGINES)
-        × GoesFirst draw.old.priorities actions.now possible draw.old.settings.groups result }
+        × GoesNext draw.old.priorities actions.now possible draw.old.settings.groups result }
     ensures answer { result ≢ NONE → (action_in actions.now result).drawn ≡ ANSWER → draw.new.phase ≡ SETTLED }
     ensures same { draw.new.settings ≡ draw.old.settings }
     ensures unchanged { result ≡ NONE → (draw.new.phase ≡ draw.old.phase) × (draw.new.burst ≡ draw.old.burst)
@@ -325,9 +335,9 @@ pub fn draw_next(draw: &mut Draw, actions: &[Action], possible: u64) -> u32
     ensures burst { result ≢ NONE → (action_in actions.now result).drawn ≡ ENGINE → draw.old.settings.mode ≡ BURSTS
         → (draw.new.burst ≡ draw.old.burst + 1) × (draw.new.burst ≤ MOST_IN_BURST) }
 
-    // By priorities, the group with the highest one goes first.
+    // By priorities, the group with the highest one goes first, if that is above the priority of the group that runs.
     ensures highest { result ≢ NONE → (action_in actions.now result).drawn ≡ ENGINE → draw.old.settings.mode ≡ PCT
-        → GoesFirst draw.old.priorities actions.now possible draw.old.settings.groups result }
+        → GoesNext draw.old.priorities actions.now possible draw.old.settings.groups result }
 
     // After an answer, or after `NONE`, nothing more is drawn at this place.
     ensures answer { result ≢ NONE → (action_in actions.now result).drawn ≡ ANSWER → draw.new.phase ≡ SETTLED }

@@ -1,10 +1,11 @@
 //! Draws by probabilistic concurrency testing (PCT): the group with the highest priority goes first.
 //!
 //! The first priorities are random. At up to `depth` - 1 random events of a run, the group of the event gets a priority
-//! below all first priorities. Group 0 is the driver; its events are the places of a run.
+//! below all first priorities. Group 0 is the driver; its events are the places of a run. At places of a handler that has
+//! cut in, the handler's group runs in the driver's place.
 
 ghost use Rattle.std.specs.Prelude.{◌≡◌, ◌≢◌, ◌<◌, ◌≤◌, ℕ, true};
-ghost use Rattle.search.specs.Draws.{GoesBefore, GoesFirst, group_of, is_waiting, takes_over};
+ghost use Rattle.search.specs.Draws.{GoesBefore, GoesNext, group_of, is_waiting, running, takes_over};
 
 use crate::actions::{Action, ENGINE, NONE, action_at, numbers};
 use crate::generator::{Generator, draw_below};
@@ -33,8 +34,10 @@ pub struct Priorities {
     pub reads: u32,
     /// What was read last, or 0.
     pub poll: u64,
-    /// Whether a group must go before the driver.
+    /// Whether a group must go before the one that runs.
     pub must_wait: bool,
+    /// The group that runs at this place.
+    pub runs: u32,
 }
 
 /// Returns the priorities of a run by another drawing.
@@ -46,6 +49,7 @@ pub(crate) fn no_priorities() -> Priorities {
         reads: 0,
         poll: 0,
         must_wait: false,
+        runs: 0,
     }
 }
 
@@ -69,9 +73,10 @@ pub(crate) fn draw_priorities(
     drawn
 }
 
-/// Counts a place. Before each fourth read in a row of one place, a group must go. `poll` is 0 if the place is no read,
-/// and otherwise equal for reads of one place.
-pub(crate) fn see_place(priorities: &mut Priorities, poll: u64) {
+/// Counts a place, at which the group `runs` runs. Before each fourth read in a row of one place, another group must go.
+/// `poll` is 0 if the place is no read, and otherwise equal for reads of one place.
+pub(crate) fn see_place(priorities: &mut Priorities, poll: u64, runs: u32) {
+    priorities.runs = runs;
     priorities.reads = if poll == 0 {
         0
     } else if poll == priorities.poll {
@@ -103,6 +108,18 @@ fn group_at(actions: &[Action], number: u32) -> usize
     let group = action_at(actions, number).group;
     if group < MOST_GROUPS as u32 {
         group as usize
+    } else {
+        0
+    }
+}
+
+/// Returns the group that runs: the driver's, if the place names none that has a priority.
+fn running_group(priorities: &Priorities) -> usize
+    ensures within { result < 64 }
+    ensures group { result ≡ running priorities.now }
+{
+    if priorities.runs < MOST_GROUPS as u32 {
+        priorities.runs as usize
     } else {
         0
     }
@@ -152,7 +169,7 @@ fn first_ready(priorities: &Priorities, actions: &[Action], possible: u64, count
     first
 }
 
-/// Returns the action that goes next at this place, or [`NONE`] if the driver goes.
+/// Returns the action that goes next at this place, or [`NONE`] if the group that runs goes on.
 pub(crate) fn next_ready(
     priorities: &mut Priorities,
     actions: &[Action],
@@ -160,16 +177,17 @@ pub(crate) fn next_ready(
     count: u32,
 ) -> u32
     ensures found { result ≢ NONE → is_waiting actions.now possible count result ≡ true }
-    ensures highest { result ≢ NONE → GoesFirst priorities.old actions.now possible count result }
+    ensures highest { result ≢ NONE → GoesNext priorities.old actions.now possible count result }
 {
+    let runs = running_group(priorities);
     let first = first_ready(priorities, actions, possible, count);
     if first == NONE {
-        count_event(priorities, 0);
+        count_event(priorities, runs);
         return NONE;
     }
     let group = group_at(actions, first);
-    if !priorities.must_wait && priorities.groups[group] <= priorities.groups[0] {
-        count_event(priorities, 0);
+    if !priorities.must_wait && priorities.groups[group] <= priorities.groups[runs] {
+        count_event(priorities, runs);
         return NONE;
     }
     priorities.must_wait = false;
