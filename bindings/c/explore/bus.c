@@ -244,7 +244,10 @@ bool xi_deviate(int action)
         did = S->is_put_off = B->event == CALL;
     else if (action == HOLD_STEP)
         did = S->is_held = B->event == STEP;
-    else if (action == CHOICE)
+    else if (action >= ACTOR && action < CHOICE) {
+        did = xi_may_run((unsigned)(action - ACTOR));
+        S->actor = did ? (unsigned)(action - ACTOR + 1) : 0;
+    } else if (action == CHOICE)
         did = B->event == CHOOSE && S->choice && S->choice < B->address;
     else if (action < X_KINDS)
         did = xi_play((uint32_t)action) != NIC_NOTHING;

@@ -77,7 +77,7 @@ static void know_actors(void)
 /* Takes the names of actions, and the actors, from the device. */
 void xi_know_device(void)
 {
-    static const char *const others[] = { "arrive", "irq", "late irq", "hold step", "choose" };
+    static const char *const others[] = { "arrive", "irq", "late irq", "hold step" };
     static char holds[CLOCKS][32];
 
     check(xi_device);
@@ -94,6 +94,9 @@ void xi_know_device(void)
             xi_clock[xi_clocks++] = n;
         }
     memcpy(&xi_actions[ARRIVAL], others, sizeof others);
+    for (unsigned n = 0; n < X_ACTORS; n++)
+        xi_actions[ACTOR + n] = xi_actor(n);
+    xi_actions[CHOICE] = "choose";
     know_actors();
 }
 

@@ -94,12 +94,13 @@ static void burst(void)
     }
 }
 
-/* Draws whether the handler cuts in here, or is put off. Returns whether it cuts in: then this place comes again. */
+/* Draws whether the handler cuts in here, or is put off, and whether an actor runs. Returns whether one of them does: then
+ * this place comes again. */
 static bool draw_interrupt(void)
 {
     if (B->event == CALL && draw() % 4 == 0)
         xi_deviate(LATE_IRQ);
-    return xi_may_cut_in() && draw() & 1 && xi_deviate(IRQ);
+    return (xi_may_cut_in() && draw() & 1 && xi_deviate(IRQ)) || xi_draw_actor();
 }
 
 /* Draws the answer to x_choose, and, with holds, whether the step of x_step is left out. */
@@ -220,7 +221,7 @@ static bool is_here(const struct deviation *one)
 /* Whether the run goes on after this deviation */
 static bool is_last(const struct deviation *one)
 {
-    return one->action == IRQ || one->action == LATE_IRQ || one->action == HOLD_STEP || one->action == CHOICE;
+    return one->action >= IRQ;
 }
 
 /* If this deviation names another access or request than the one here, notes it. */

@@ -160,6 +160,11 @@ void xi_html_handler(const char *what, bool is_deviation)
     begin("handler", "mark", 4), end(mark, is_deviation);
 }
 
+void xi_html_actor(const char *mark, bool is_deviation)
+{
+    begin("driver", "mark", 4), end(mark, is_deviation);
+}
+
 void xi_html_step(const char *action, const char *result, bool is_deviation)
 {
     bool arrives = !strcmp(action, "arrive");

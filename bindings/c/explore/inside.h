@@ -8,21 +8,22 @@
 
 enum {
     PAGE = 4096, MOST_AREAS = 128, MOST_FRAMES = 256, MOST_BYTES = 1 << 17, MOST_PATH = 1024, LONGEST = 1518,
-    MOST_OPTIONS = 32, MOST_ANSWERS = 16, MOST_PLACES = 100000
+    MOST_OPTIONS = 40, MOST_ANSWERS = 16, MOST_PLACES = 100000
 };
 /* What may be done before an access or a request: steps of the device, by their kinds; pairs of them; holds of its clocks;
- * and what follows. DEFAULT is no deviation. */
+ * and what follows. ACTOR and what comes next: the test's actors. DEFAULT is no deviation. */
 enum { PAIRS = 2, CLOCKS = 2 };
 enum {
-    PAIR = X_KINDS, HOLD = PAIR + PAIRS, ARRIVAL = HOLD + CLOCKS, IRQ, LATE_IRQ, HOLD_STEP, CHOICE, ACTIONS, DEFAULT = -1
+    PAIR = X_KINDS, HOLD = PAIR + PAIRS, ARRIVAL = HOLD + CLOCKS, IRQ, LATE_IRQ, HOLD_STEP, ACTOR,
+    CHOICE = ACTOR + X_ACTORS, ACTIONS, DEFAULT = -1
 };
-/* The kinds of places. LINE: the test looks at the line. INTERRUPTS_OFF to HANDLER_ON: the handler is kept out, let in,
+/* The kinds of places. LINE: the test looks at the line. VARIABLE: the driver uses one (x_variable). INTERRUPTS_OFF to HANDLER_ON: the handler is kept out, let in,
  * removed, or given. CALL: the handler is about to cut in after an access. PAUSE: in x_settle, after a step that asserts
  * the line. From LINE to PAUSE, a place has no number of its own in a round: it is counted after the last access, such
  * as 4.5+1. From ARRIVE on, requests begin rounds. */
 enum event {
-    READ, WRITE, LOAD, STORE, TOUCH, CHOOSE, LINE, INTERRUPTS_OFF, INTERRUPTS_ON, HANDLER_OFF, HANDLER_ON, CALL, PAUSE,
-    ARRIVE, STEP, SETTLE, OFFER, ENDED
+    READ, WRITE, LOAD, STORE, TOUCH, CHOOSE, LINE, VARIABLE, INTERRUPTS_OFF, INTERRUPTS_ON, HANDLER_OFF, HANDLER_ON, CALL,
+    PAUSE, ARRIVE, STEP, SETTLE, OFFER, ENDED
 };
 enum { PASSES, FOUND, USAGE, NOT_RUN, NOTHING, DIFFERS };
 
@@ -96,6 +97,8 @@ struct state {
     bool is_settling, has_cut_in; /* x_settle runs; the handler has cut in meanwhile */
     bool is_late;    /* the handler cuts in after the next access, even if the line is lowered by then */
     unsigned choice; /* of x_choose: the answer that is taken */
+    unsigned actor;  /* 1 + the number of the actor that runs before this place comes again, or 0 */
+    unsigned runs;   /* who runs: 0 the test, 1 the handler, 2 + n actor n */
     unsigned offered; /* the number of the offered frame that arrives next */
     unsigned dead_count; /* of the areas that dead.c has noted */
     uint32_t filling; /* 1 + the address of the receive descriptor whose buffer was written, until it is written back */
@@ -224,6 +227,16 @@ void xi_at_place(enum event event, uint64_t address);
 bool xi_may_cut_in(void);
 void xi_cut_in(void);
 
+/* actors.c: the actors of the test */
+extern uint64_t xi_impossible; /* runs that the test has ended as impossible */
+const char *xi_actor(unsigned number);
+bool xi_may_run(unsigned number);
+void xi_run_actor(void);
+bool xi_draw_actor(void);
+
+/* variables.c: variables that the actors share */
+extern bool xi_skips; /* whether places at which nothing is tried are only counted */
+
 /* frames.c: the frames of a run */
 void xi_add_frame(struct frames *frames, const void *bytes, size_t count, uint32_t fate);
 size_t xi_take_frame(const struct frames *frames, unsigned number, void *into, size_t room);
@@ -289,6 +302,7 @@ void xi_log_bytes(const void *bytes, size_t count);
 void xi_log_touch(uint64_t address);
 void xi_log_request(const char *result);
 void xi_log_handler(const char *what, bool is_deviation);
+void xi_log_actor(const char *name, bool begins);
 void xi_log_step(const char *action, const char *result, bool is_deviation);
 
 /* html.c: the page of a run, with --html. log.c calls the functions of the steps while there is a file for them. */
@@ -298,6 +312,7 @@ void xi_html_bytes(const void *bytes, size_t count);
 void xi_html_touch(const uint8_t *bytes, size_t count);
 void xi_html_request(const char *result);
 void xi_html_handler(const char *what, bool is_deviation);
+void xi_html_actor(const char *mark, bool is_deviation);
 void xi_html_step(const char *action, const char *result, bool is_deviation);
 void xi_html_begin(void);
 extern const char xi_page_head[], xi_page_middle[], xi_page_end[]; /* page.c */

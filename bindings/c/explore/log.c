@@ -115,6 +115,18 @@ static APART void log_handler(const char *what, bool is_deviation)
         printf("%c        %s\n", is_deviation ? '*' : ' ', mark);
 }
 
+/* Adds a line: an actor of the test runs, or has run. */
+static APART void log_actor(const char *name, bool begins)
+{
+    char mark[64];
+
+    snprintf(mark, sizeof mark, "%s %s", name, begins ? "runs" : "has run");
+    if (xi_html_steps)
+        xi_html_actor(mark, begins);
+    if (xi_given.log)
+        printf("%c        %s\n", begins ? '*' : ' ', mark);
+}
+
 /* Adds a line: the adapter has taken a step, or an offered frame has arrived. */
 static APART void log_step(const char *action, const char *result, bool is_deviation)
 {
@@ -154,6 +166,12 @@ void xi_log_handler(const char *what, bool is_deviation)
 {
     if (is_on() || xi_is_piped)
         log_handler(what, is_deviation);
+}
+
+void xi_log_actor(const char *name, bool begins)
+{
+    if (is_on())
+        log_actor(name, begins);
 }
 
 void xi_log_step(const char *action, const char *result, bool is_deviation)

@@ -125,6 +125,8 @@ static bool is_possible(int action)
         return B->event == CALL;
     if (B->event == CALL || B->event == PAUSE)
         return false;
+    if (action >= ACTOR)
+        return xi_may_run((unsigned)(action - ACTOR));
     if (action == HOLD_STEP)
         return has_holds && B->event == STEP && B->address < xi_device->kinds && possible >> B->address & 1;
     if (action == ARRIVAL)
@@ -141,10 +143,11 @@ static bool is_possible(int action)
 static int options_here(uint8_t *actions)
 {
     static const int tried[] = { 0, 1, 2, 3, 4, 5, 6, 7, ARRIVAL, PAIR, PAIR + 1, IRQ, LATE_IRQ, HOLD_STEP };
+    const int known = sizeof tried / sizeof *tried;
     int count = 0;
 
-    for (size_t n = 0; n < sizeof tried / sizeof *tried; n++) {
-        int action = tried[n];
+    for (int n = 0; n < known + X_ACTORS; n++) {
+        int action = n < known ? tried[n] : ACTOR + n - known;
         bool is_tried = is_every ? action < PAIR || action >= HOLD : !B->last || is_after(B->last - 1, action);
         if (is_tried && is_possible(action))
             actions[count++] = (uint8_t)action;
@@ -192,7 +195,7 @@ static void take(int action)
         go_on();
     else if (action >= CHOICE)
         xi_choose((unsigned)(action - CHOICE + 1)), go_on();
-    else if (action == IRQ || action == LATE_IRQ || action == HOLD_STEP)
+    else if (action >= IRQ)
         xi_deviate(action), go_on();
     else
         xi_deviate(action);
@@ -475,9 +478,9 @@ void xi_explore(int depth, bool with_holds, bool finds_all, size_t most_states, 
 {
     is_every = depth == EVERY, has_holds = with_holds, goes_on = finds_all;
     xi_reads_dead |= finds_all;
-    xi_searches = xi_saves;
+    xi_searches = xi_skips = xi_saves;
     do
         search_all(depth, most_states, found);
     while ((used_before != xi_dead_used || all_before != xi_reads_dead) && !xi_stopped());
-    xi_searches = false;
+    xi_searches = xi_skips = false;
 }
