@@ -16,6 +16,7 @@ import sys
 
 from harness import TOP, Ended, Program, not_run, test_all, words_of_script
 from page_script import logic
+from explorer_actors import SOURCE, check_actors
 from explorer_builds import builds, lies
 from explorer_commands import (commands, ended_commands, jobs, languages, refused_words, resets, shrinks,
                                stopped_commands)
@@ -466,6 +467,11 @@ def devices(bench):
     check_devices(bench, lambda name, sources: bench.build(name, *sources))
 
 
+def actors(bench):
+    """Actors of a test (explorer_actors.py)."""
+    check_actors(bench, bench.build("actors", SOURCE))
+
+
 def make(folder):
     program, given = map(os.path.abspath, words_of_script())
     bench = Explorer(program, shutil.copytree(given, os.path.join(folder, "nic")), folder)
@@ -477,7 +483,7 @@ def make(folder):
 
 PARTS = (counts, searching, passes, calls, kept, builds, lies, hooks, untold, schedules, endless, enumerated, bugs,
          all_that_fail, by_priorities, races, commands, languages, jobs, shrinks, resets, ended_commands,
-         stopped_commands, refused_words, drawn, logs, arguments, left_behind, results, pages, pointers, devices, rust,
-         lab, course, every)
+         stopped_commands, refused_words, drawn, logs, arguments, left_behind, results, pages, pointers, devices, actors,
+         rust, lab, course, every)
 
 test_all(make, PARTS)

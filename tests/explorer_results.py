@@ -19,7 +19,7 @@ PASSES, FOUND, USAGE, NOT_RUN, NOTHING = range(5)
 SIGNALS = signal.SIGINT, signal.SIGTERM, signal.SIGHUP
 WITHOUT_TOUCH = ("the handler cut in at accesses and requests, not between uses of shared variables: "
                  "x_touch makes these places")
-KEYS = {"result", "seed", "fault", "schedule", "runs", "search", "seen", "served"}
+KEYS = {"result", "seed", "fault", "schedule", "runs", "search", "seen", "impossible", "served"}
 SEARCH_KEYS = {"complete", "tried", "smallest", "holds", "first", "schedules", "states", "depth"}
 # For searches: the cases that their runs have seen, and the number of kinds of places that they reached. Then the
 # number of kinds without a deviation, some of them, and the end of the line about them.

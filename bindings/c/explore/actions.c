@@ -45,6 +45,8 @@ static void know_names(void)
         snprintf(holds[n], sizeof holds[n], "hold %s", xi_device->steps[xi_clock[n]]);
         xi_actions[HOLD + n] = holds[n];
     }
+    for (unsigned n = 0; n < X_ACTORS; n++)
+        xi_actions[ACTOR + n] = xi_actor(n);
     xi_actions[ARRIVAL] = "arrive";
     memcpy(&xi_actions[IRQ], others, sizeof others);
 }
@@ -66,7 +68,7 @@ static uint32_t drawn_as(int action)
 {
     if (action >= CHOICE)
         return SCHEDULE_ANSWER;
-    if (action == LATE_IRQ || xi_is_clock(action))
+    if (action == LATE_IRQ || action >= ACTOR || xi_is_clock(action))
         return SCHEDULE_QUARTER;
     if (action >= HOLD)
         return SCHEDULE_HALF;
@@ -86,10 +88,20 @@ static uint32_t group_of(int action)
     return action == ARRIVAL ? WIRE : xi_is_nic() ? of_nic[action] : 1 + xi_device->engines[action];
 }
 
+/* Refuses an actor whose name is that of another action: a schedule couldn't be read. */
+static void check_names(void)
+{
+    for (int n = ACTOR; n < CHOICE; n++)
+        for (int other = 0; other < ACTIONS; other++)
+            if (other != n && strcmp(xi_actions[n], " ") && !strcmp(xi_actions[n], xi_actions[other]))
+                xi_die("x_actors: an actor has the name of another action");
+}
+
 /* Takes the names and the table of the actions from the device. */
 void xi_know_actions(void)
 {
     know_names();
+    check_names();
     for (int n = 0; n < ACTIONS; n++) {
         const struct x_pair *pair = n >= PAIR && n < HOLD ? pair_of(n) : NULL;
         xi_table[n] = (struct schedule_action){ actor_of(n), pair ? pair->first : SCHEDULE_NONE,
@@ -109,6 +121,9 @@ static uint64_t steps_here(bool with_holds)
         mask |= BIT(ARRIVAL);
     if (with_holds && B->event == STEP && B->address < xi_device->kinds && possible >> B->address & 1)
         mask |= BIT(HOLD_STEP);
+    for (unsigned n = 0; n < X_ACTORS; n++)
+        if (xi_may_run(n))
+            mask |= BIT(ACTOR + n);
     if (B->event == CHOOSE && B->address > 1)
         mask |= (BIT(B->address - 1) - 1) << CHOICE;
     return mask;

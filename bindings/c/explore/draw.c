@@ -11,6 +11,8 @@
 #define S xi_state
 #define BIT(action) ((uint64_t)1 << (action))
 
+enum { SCALES = 5 };
+
 static struct saved first_round; /* before the request that begins round 1 */
 static struct schedule_draw run, clocks; /* the draws of a run; those of holds, and of early steps of clocks */
 struct pct xi_pct;
@@ -62,12 +64,23 @@ static uint64_t poll_here(void)
     return B->event == READ ? 1 + 2 * B->address : B->event == LOAD ? 2 + 2 * B->address : 0;
 }
 
+/* Whether an actor of the test may be drawn here. In some runs, each ready one would run at once: so a run draws them
+ * at every place, or only at one of 2, 4, 8 or 16. By priorities, none is drawn. */
+static bool draws_actors(void)
+{
+    uint64_t seed = run.settings.seed;
+
+    return !xi_pct.depth && (B->places + seed / SCALES) % (1u << seed % SCALES) == 0;
+}
+
 /* What may be drawn here. By priorities, at the end of an access, the handler is about to go. */
 static uint64_t drawable(bool with_holds)
 {
+    uint64_t left = xi_device->clocks | (BIT(HOLD) - BIT(PAIR)) | (draws_actors() ? 0 : BIT(CHOICE) - BIT(ACTOR));
+
     if (xi_pct.depth && B->event == CALL)
         return BIT(IRQ);
-    return xi_here(with_holds) & ~(xi_device->clocks | (BIT(HOLD) - BIT(PAIR)));
+    return xi_here(with_holds) & ~left;
 }
 
 /* Whether something may be drawn now. By priorities, the driver's turn counts, too. Otherwise, only those steps are

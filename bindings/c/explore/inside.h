@@ -9,25 +9,26 @@
 
 enum {
     PAGE = 4096, MOST_AREAS = 128, MOST_FRAMES = 256, MOST_BYTES = 1 << 17, MOST_PATH = 1024, LONGEST = 1518,
-    MOST_OPTIONS = 32, MOST_ANSWERS = 16, MOST_PLACES = 100000
+    MOST_OPTIONS = 40, MOST_ANSWERS = 16, MOST_PLACES = 100000
 };
 /* What may be done before an access or a request: steps of the device, by their kinds; the arrival of an offered frame;
- * pairs of steps; holds of its clocks; and what follows. CHOICE is the answer 1 to x_choose, CHOICE + 1 the answer 2,
- * and so on. DEFAULT is no deviation. At a place, actions are tried in the order of their numbers. */
+ * pairs of steps; holds of its clocks; and what follows. From ACTOR on: the test's actors. CHOICE is the answer 1 to
+ * x_choose, CHOICE + 1 the answer 2, and so on. DEFAULT is no deviation. At a place, actions are tried in the order of
+ * their numbers. */
 enum { PAIRS = 2, CLOCKS = 2 };
 enum {
-    ARRIVAL = X_KINDS, PAIR, HOLD = PAIR + PAIRS, IRQ = HOLD + CLOCKS, LATE_IRQ, HOLD_STEP, CHOICE,
-    ACTIONS = CHOICE + MOST_ANSWERS - 1, DEFAULT = -1
+    ARRIVAL = X_KINDS, PAIR, HOLD = PAIR + PAIRS, IRQ = HOLD + CLOCKS, LATE_IRQ, HOLD_STEP, ACTOR,
+    CHOICE = ACTOR + X_ACTORS, ACTIONS = CHOICE + MOST_ANSWERS - 1, DEFAULT = -1
 };
 /* The groups of actions in bursts and by priorities. Those of the device's steps have the numbers from 1 to X_KINDS. */
 enum { DRIVER, WIRE = X_KINDS + 1, HANDLER, GROUPS };
-/* The kinds of places. LINE: the test looks at the line. INTERRUPTS_OFF to HANDLER_ON: the handler is kept out, let in,
- * removed, or given. CALL: the handler is about to cut in after an access. PAUSE: in x_settle, after a step that asserts
- * the line. From LINE to PAUSE, a place has no number of its own in a round: it is counted after the last access, such
- * as 4.5+1. From ARRIVE on, requests begin rounds. */
+/* The kinds of places. LINE: the test looks at the line. VARIABLE: x_variable. INTERRUPTS_OFF to HANDLER_ON: the handler
+ * is kept out, let in, removed, or given. CALL: the handler is about to cut in after an access. PAUSE: in x_settle, after
+ * a step that asserts the line. From LINE to PAUSE, a place has no number of its own in a round: it is counted after the
+ * last access, such as 4.5+1. From ARRIVE on, requests begin rounds. */
 enum event {
-    READ, WRITE, LOAD, STORE, TOUCH, CHOOSE, LINE, INTERRUPTS_OFF, INTERRUPTS_ON, HANDLER_OFF, HANDLER_ON, CALL, PAUSE,
-    ARRIVE, STEP, SETTLE, OFFER, ENDED
+    READ, WRITE, LOAD, STORE, TOUCH, CHOOSE, LINE, VARIABLE, INTERRUPTS_OFF, INTERRUPTS_ON, HANDLER_OFF, HANDLER_ON, CALL,
+    PAUSE, ARRIVE, STEP, SETTLE, OFFER, ENDED
 };
 enum { PASSES, FOUND, USAGE, NOT_RUN, NOTHING, DIFFERS };
 
@@ -99,6 +100,8 @@ struct state {
     bool is_settling, has_cut_in; /* x_settle runs; the handler has cut in meanwhile */
     bool is_late;    /* the handler cuts in after the next access, even if the line is lowered by then */
     unsigned choice; /* of x_choose: the answer that is taken */
+    unsigned actor;  /* 1 + the number of the actor that runs before this place comes again, or 0 */
+    unsigned runs;   /* who runs: 0 the test, 1 the handler, 2 + n actor n */
     unsigned offered; /* the number of the offered frame that arrives next */
     unsigned dead_count; /* of the areas that dead.c has noted */
     uint32_t filling; /* 1 + the address of the receive descriptor whose buffer was written, until it is written back */
@@ -231,6 +234,16 @@ const char *xi_deliver_offered(void);
 void xi_at_place(enum event event, uint64_t address);
 bool xi_may_cut_in(void);
 void xi_cut_in(void);
+
+/* actors.c: the actors of the test */
+extern uint64_t xi_impossible; /* runs that the test has ended as impossible */
+const char *xi_actor(unsigned number);
+bool xi_may_run(unsigned number);
+bool xi_take_turn(unsigned number);
+void xi_run_actor(void);
+
+/* variables.c: variables that the actors share */
+extern bool xi_skips; /* whether places at which nothing is tried are only counted */
 
 /* frames.c: the frames of a run */
 void xi_add_frame(struct frames *frames, const void *bytes, size_t count, uint32_t fate);

@@ -9,7 +9,9 @@ bool xi_has_handler;
 
 static void call_handler(bool is_deviation)
 {
-    S->takes_none = true, S->is_late = false, S->has_cut_in = S->is_settling;
+    unsigned before = S->runs;
+
+    S->takes_none = true, S->is_late = false, S->has_cut_in = S->is_settling, S->runs = 1;
     xi_handler_begins();
     xi_see_handler(B->is_sending);
     xi_log_mark("the handler cuts in", is_deviation);
@@ -17,20 +19,24 @@ static void call_handler(bool is_deviation)
     S->handler();
     xi_pause();
     xi_log_mark("the handler returns", false);
-    S->takes_none = false;
+    S->takes_none = false, S->runs = before;
     xi_handler_ends();
 }
 
-/* Leaves the test at a place, and again each time that the handler has cut in before it. */
+/* Leaves the test at a place, and again each time that the handler or an actor has run before it. */
 __attribute__((noinline)) void xi_at_place(enum event event, uint64_t address)
 {
     for (;;) {
         xi_clean();
         xi_leave(event, address);
-        if (!S->cuts_in)
+        if (!S->cuts_in && !S->actor)
             return;
-        S->cuts_in = false;
         xi_clean();
+        if (S->actor) {
+            xi_run_actor();
+            continue;
+        }
+        S->cuts_in = false;
         call_handler(true);
     }
 }

@@ -6,7 +6,7 @@
 #include <sys/stat.h>
 #include <unistd.h>
 
-static const char *const events[] = { "read", "write", "read", "write", "touch", "choose", "line", "interrupts off",
+static const char *const events[] = { "read", "write", "read", "write", "touch", "choose", "line", "variable", "interrupts off",
                                       "interrupts on", "handler off", "handler on", "handler", "settle", "arrive",
                                       "step", "settle", "offer" };
 

@@ -91,6 +91,12 @@ uint8_t *x_host(uint64_t *size);
  * host's memory is a place, and so is one of a variable that the handler may share, while a handler may cut in. */
 void x_access(bool is_store, const void *at);
 
+/* As x_access for a variable outside of the host's memory, with or without a handler. The handler doesn't cut in after it,
+ * except by `irq` before a later place. The search notes who uses each 8 bytes: the test, the handler, and each actor. It
+ * tries deviations only before accesses of those that two of them use and one stores in, and begins again when it finds
+ * more of these: what is done before another access can as well be done before the next place. */
+void x_variable(bool is_store, const void *at);
+
 /* The requests of the test. Each begins a round, as with `nicbench serve`. Before each, deviations may be played.
  * Frames have no checksum. */
 uint32_t x_arrive(const void *frame, size_t count); /* a frame arrives; returns its fate */
@@ -108,6 +114,24 @@ bool x_line(void);
 /* A choice of the test: returns 0, or by a deviation another number below `count`, which is 1 to 16. So a test can decide
  * whether a timer fires, the driver is closed, or memory is refused. */
 unsigned x_choose(unsigned count);
+
+/* Actors of the test: other code than the one that runs, such as a timer, a second processor's work, or a user. Before each
+ * access, request, x_touch and other place, a schedule may let one of them run whose `ready` returns true: the deviation
+ * has its name (`watchdog before read CTRL`). The code that it interrupts goes on when `run` returns, so an actor runs to
+ * its end on the stack of what it interrupts. While it runs, the handler and other actors may cut in. `ready` reads only the
+ * test's own memory, and calls nothing of this header. Call x_actors before nic82540em_explore, with at most 8 actors and
+ * names of at most 24 characters. --pct lets no actor run. */
+struct x_actor {
+    const char *name;
+    bool (*ready)(void);
+    void (*run)(void);
+};
+enum { X_ACTORS = 8 };
+void x_actors(const struct x_actor *actors, unsigned count);
+
+/* Ends the run, which passes, since it can't happen: for example, because an actor would have to wait for one that it has
+ * interrupted. The runs that were ended so are counted apart (`impossible`). */
+void x_impossible(void);
 
 /* The frames that were put on the wire, and those that arrived, with any fate, each from number 0 on. x_put and
  * x_arrived copy up to `room` bytes of a frame into `into`, and return the frame's length in bytes. If no frame has

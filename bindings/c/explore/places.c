@@ -153,6 +153,8 @@ bool xi_deviate(int action)
         did = S->is_held = B->event == STEP;
     else if (action >= CHOICE)
         did = choose((unsigned)(action - CHOICE + 1));
+    else if (action >= ACTOR)
+        did = xi_take_turn((unsigned)(action - ACTOR));
     else if (action < X_KINDS)
         did = xi_play((uint32_t)action) != NIC_NOTHING;
     is_deviation = false;

@@ -60,7 +60,7 @@ static bool is_known_to_server(void)
 {
     for (unsigned n = 0; n < R.found.count; n++) {
         int action = R.found.path[n].action;
-        if (R.found.path[n].sub || action == IRQ || action == LATE_IRQ || action == HOLD_STEP)
+        if (R.found.path[n].sub || (action >= IRQ && action < CHOICE))
             return false;
     }
     return true;
@@ -169,7 +169,7 @@ int xi_finish(const char *result, int status)
     print_search();
     fprintf(xi_out, ", \"seen\": ");
     xi_print_seen();
-    fprintf(xi_out, ", \"served\": %s}\n", served);
+    fprintf(xi_out, ", \"impossible\": %llu, \"served\": %s}\n", (unsigned long long)xi_impossible, served);
     fflush(xi_out);
     return status;
 }

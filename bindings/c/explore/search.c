@@ -443,9 +443,9 @@ void xi_explore(int depth, bool with_holds, bool finds_all, size_t most_states, 
 {
     is_every = depth == EVERY, has_holds = with_holds, goes_on = finds_all;
     xi_reads_dead |= finds_all;
-    xi_searches = xi_saves;
+    xi_searches = xi_skips = xi_saves;
     do
         search_all(depth, most_states, found);
     while ((used_before != xi_dead_used || all_before != xi_reads_dead) && !xi_stopped());
-    xi_searches = false;
+    xi_searches = xi_skips = false;
 }

@@ -213,6 +213,8 @@ void xi_say_seen(void)
         xi_say("%s; %s; %s frame was missed%s\n", ring(receive, sizeof receive, false),
                ring(transmit, sizeof transmit, true), seen.missed ? "a" : "no", seen.handled ? handler : "");
     say_never();
+    if (xi_impossible)
+        xi_say("the test has ended %llu runs as impossible: these count as passing\n", (unsigned long long)xi_impossible);
     if (xi_untold())
         xi_say("the host's memory was changed without an access, first %s: by the test, or by inline assembly\n",
                xi_untold());

@@ -7,7 +7,8 @@
 #include <string.h>
 #include <unistd.h>
 
-bool xi_saves, xi_searches, xi_reads_dead, xi_is_fresh, xi_is_piped, xi_has_handler;
+bool xi_saves, xi_searches, xi_reads_dead, xi_is_fresh, xi_is_piped, xi_has_handler, xi_skips;
+uint64_t xi_impossible;
 unsigned xi_dead_used;
 volatile unsigned xi_entries;
 
@@ -111,4 +112,23 @@ struct outcome xi_fresh_draw(uint64_t seed)
 {
     xi_draw(seed, xi_given.holds, true);
     return xi_outcome();
+}
+
+/* A COMMAND has no actors. */
+const char *xi_actor(unsigned number)
+{
+    (void)number;
+    return " ";
+}
+
+bool xi_may_run(unsigned number)
+{
+    (void)number;
+    return false;
+}
+
+bool xi_take_turn(unsigned number)
+{
+    (void)number;
+    return false;
 }
