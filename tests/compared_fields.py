@@ -16,7 +16,7 @@ import functools
 import re
 import textwrap
 
-from clause_texts import bare, cut, inner_of, words_of
+from clause_texts import bare, cut, end_of, inner_of, words_of
 from harness import sources, text_of
 
 RECORD = r"^(?:pub )?record {}\b.*? where\n((?: .*\n|\n)*)"
@@ -83,7 +83,8 @@ class Reader:
         paths = [(word, self.place(word, names)) for word in re.findall(r"\b\w+(?:\.[\w«»]+)*", text)
                  if not re.search(r"\.old\b", word)]
         parts = [place for _, place in paths if place]
-        begin = {words_of(inner)[0] for inner in map(bare, inner_of(text)) if len(words_of(inner)) > 1}
+        calls = [words for words in map(words_of, map(bare, inner_of(text))) if len(words) > 1]
+        begin = {words[0] for words in calls} | {words[1] for words in calls if words[0] in ("map", "option_map")}
         return parts, [word for word, place in paths if not place and word in begin - {*CASES}]
 
     def compare(self, sides, head, names):
@@ -216,8 +217,9 @@ def left_of(part, kind, reader):
 
 def parts_of(function, made):
     """The variables of a function's clauses, each with the part that it is, and the type of each part."""
-    types = dict(re.findall(r"(\w+): ((?:[^,()<]|<[^()]*?>(?=[,)]|$)|<[^<>]*(?:<[^<>]*>)*[^<>]*>|\([^()]*\))+)",
-                            function[function.index("(") + 1:].split("\n{\n")[0]))
+    given = function[function.index("("):]
+    given = given[1:end_of(given)].translate({ord("<"): "⟦", ord(">"): "⟧"})
+    types = dict(one.translate({ord("⟦"): "<", ord("⟧"): ">"}).split(": ", 1) for one in cut(given, ",") if one)
     kinds, names = {}, {}
     for one, other in zip(made[::2], made[1::2]):
         for name, same in zip(*(([call[1]] if call[1] else []) + call[2] for call in (one, other))):
