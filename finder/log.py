@@ -94,7 +94,7 @@ def text_of(runs: Sequence[RunLog]) -> str:
 
 
 def short_text_of(runs: Sequence[RunLog]) -> str:
-    """The lines of the logs of one run or two, as a page has them: the steps with which both begin stand there once."""
+    """The lines of the logs of one run or two, as a page has them. Steps with which both begin are there once."""
     lines: List[Dict[str, Any]] = []
     for number, run in enumerate(runs):
         ours = runs[0].steps if number else ()

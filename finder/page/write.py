@@ -57,7 +57,7 @@ def page_of(title: str, log: str) -> str:
 
 
 def short(step: Step) -> Step:
-    """A step with fewer bytes, because the page shows few: of a long access, the first ones, and of a frame, the first
+    """A step with fewer bytes, because the page shows few. A long access has the first ones, and a long frame the first
     and the last ones. An access whose bytes are all 0, such as the store of an empty ring, keeps more.
     """
     data = step.data

@@ -1,4 +1,4 @@
-"""Opens pages in headless Chromium: folded rounds, the end of the test, links, what explains the page, and the rings."""
+"""Opens pages in headless Chromium: folded rounds, the end of the test, links, and what explains the page."""
 
 import os
 
@@ -52,8 +52,8 @@ def folds(server, browser):
     every = list(range(len(runs[0].steps)))
     server.check("folds: what is shown", shown(browser), every[begin:])
     heads = browser.value("[...document.querySelectorAll('.fold button')].map(one => one.textContent)")
-    server.check("folds: their texts", heads, [f"round 0, before the test's first arrive, step or settle, {len(SETUP)} steps",
-                                               "rounds 1 to 2, 10 steps"])
+    server.check("folds: their texts", heads, [
+        f"round 0, before the test's first arrive, step or settle, {len(SETUP)} steps", "rounds 1 to 2, 10 steps"])
     read = "[...document.querySelectorAll('.fold button')].map(one => one.getAttribute('aria-expanded'))"
     server.check("folds: told to screen readers", browser.value(read), ["false", "false"])
     browser.click(".fold:nth-of-type(1) button")
@@ -85,7 +85,7 @@ def folds(server, browser):
 
 
 def ends(server, browser):
-    """The last row says how the test ends, and leads to the step that explains it, as the head does."""
+    """The last row shows how the test ends. Its link leads to the step that explains the end, as the head's does."""
     runs = runs_of()
     icr = next(at for at, step in enumerate(runs[0].steps) if step.name == "ICR")
     browser.open(stored("ends", page(runs)))
@@ -147,15 +147,15 @@ def explained(server, browser):
         server.check(f"explained: {size[0]} pixels, not wider", wide, size[0])
     browser.size(*WIDE)
     terms = browser.value("document.querySelector('#what').textContent")
-    for word in ("deviation", "schedule", "place 4.6", "4.5+1", "settle", "staged", "offered", "brown bar", "R2, T2", "yellow",
-                 "txtake", "rxdone", "RDH", "TDH", "busy", "of the test"):
+    for word in ("deviation", "schedule", "place 4.6", "4.5+1", "settle", "staged", "offered", "brown bar", "R2, T2",
+                 "yellow", "txtake", "rxdone", "RDH", "TDH", "busy", "of the test"):
         server.check(f"explained: {word}", word in terms, True)
     browser.open(stored("explained", page(runs)))
-    heads = browser.value("[...document.querySelectorAll('.head > *')].slice(0, 5).map(one => one.getBoundingClientRect().x)")
-    first = browser.value("(row => [row.querySelector('i'), row.querySelector('b')].map(one => one.getBoundingClientRect().x))"
-                          "(document.querySelector('#steps > li:not(.folded) b.l0').parentElement)")
-    server.check("explained: the heads are over their columns", [abs(heads[1 + n] - x) < 2 for n, x in enumerate(first)],
-                 [True, True])
+    heads, columns = (browser.value(f"[...document.querySelectorAll('{cells}')].slice(0, 2)"
+                                    ".map(one => Math.round(one.getBoundingClientRect().x))")
+                      for cells in (".head > :nth-child(2), .head > :nth-child(3)",
+                                    "li:not(.folded, .test):has(.l0) i, li:not(.folded, .test):has(.l0) b"))
+    server.check("explained: the heads are over their columns", heads, columns)
     tx = (Step("driver", "write", "0.20", "TDLEN", 4, 0x80), Step("driver", "write", "0.21", "TDT", 4, 1),
           Step("adapter", "txtake", outcome="fault", is_deviation=True))
     rings = "[...document.querySelectorAll('.ring svg')].map(one => one.getAttribute('aria-label').split(' ')[0])"

@@ -1,5 +1,5 @@
-"""Tests what a page says of a store into a buffer that the adapter owns, and of a look that was too early; with short
-logs. Each rule has a log in which it finds something, and a log of the same shape in which it must find nothing.
+"""Tests the notes of a page on stores into buffers that the adapter owns, and on looks that were too early. Each rule
+has a log in which it finds something, and a log of the same shape in which it must find nothing.
 """
 
 from finder.log import LogError, RunLog, Step, plain_run, runs_in, short_text_of
@@ -54,23 +54,25 @@ def first_access(server):
     other = run_of([SENT, OFFER, FILL, TAKE, PUT, SENT_LOADED])._replace(fault=None)
     run = run_of([SENT, OFFER, TAKE, FILL, PUT, SENT_LOADED])
     told = logic().reasons(run, other)
-    server.check("owned: the first access", [(one["step"] - len(SET_UP), one["kind"], one.get("isHint")) for one in told],
-                 [(3, "fill", None)])
+    seen = [(one["step"] - len(SET_UP), one["kind"], one.get("isHint")) for one in told]
+    server.check("owned: the first access", seen, [(3, "fill", None)])
     server.check("owned: where the adapter has fetched it", [one["step"] - len(SET_UP) for one in told[0]["more"]], [2])
 
 
 def other_bytes(server):
-    """The page says where the sent frame differs from what was stored, if the log shows both."""
+    """The notes state where the sent frame differs from what was stored, if the log shows both."""
     frame = Step("wire", "frame", size=60, data=b"\xff\xff\xff\x01" + bytes(56))
     for lines, wanted in [([SENT, OFFER, TAKE, FILL, PUT], "byte 3 is 0x1, not 0x2"),
                           ([SENT, OFFER, TAKE, PUT], None), ([SENT, FILL, OFFER, TAKE, PUT], None)]:
         run = run_of(lines)
         run = run._replace(steps=(*run.steps, frame))
         found = [one for one in logic().findings(run) if one["kind"] in ("fill", "sent before")]
-        server.check(f"owned: other bytes: {lines}", [wanted in one["text"] for one in found], [True] * 2 if wanted else [])
+        told = [wanted in one["text"] for one in found]
+        server.check(f"owned: other bytes: {lines}", told, [True] * 2 if wanted else [])
         shown = logic().call("shownOf", run)["bytes"]
+        last = [["on the wire", [255, 255, 255, 1]], ["now at 0x20000", [255, 255, 255, 2]]]
         server.check(f"owned: shown bytes: {lines}", [[name, its[:4]] for name, its in shown[-1]],
-                     [["on the wire", [255, 255, 255, 1]], *([["now at 0x20000", [255, 255, 255, 2]]] if wanted else [])])
+                     last if wanted else last[:1])
         copied = [its[:4] for one in shown for name, its in one if name == "copied"]
         server.check(f"owned: copied bytes: {lines}", copied,
                      [[255, 255, 255, 2 if wanted is None and FILL in lines else 1]])
@@ -79,10 +81,10 @@ def other_bytes(server):
 def looks(server):
     """A cause that is cleared: the look that was too early is marked, and the frames that share the bit are named."""
     empty = "read rx[1]+8, 8 bytes: 0000000000000000"
-    begin = len(SET_UP)
-    for lines, look, shared in [([FRAME, FRAME, *DONE, LOADED, empty, *DONE, "read ICR 0x80"], 5, True),
-                                ([FRAME, FRAME, *DONE, LOADED, *DONE, "read ICR 0x80"], None, True),
-                                ([FRAME, FRAME, *DONE, "read ICR 0x80", LOADED, empty, *DONE, "read ICR 0x80"], 6, False)]:
+    begin, icr = len(SET_UP), "read ICR 0x80"
+    for lines, look, shared in [([FRAME, FRAME, *DONE, LOADED, empty, *DONE, icr], 5, True),
+                                ([FRAME, FRAME, *DONE, LOADED, *DONE, icr], None, True),
+                                ([FRAME, FRAME, *DONE, icr, LOADED, empty, *DONE, icr], 6, False)]:
         told = [one for one in logic().findings(run_of(lines)) if one["kind"] == "late"]
         server.check(f"looks: {lines}", [one["step"] - begin for one in told], [len(lines) - 1])
         server.check(f"looks: {lines}: the look", [more["step"] - begin for more in told[0]["more"]],
@@ -98,15 +100,16 @@ def cut_in(server):
     run = run_of([FILL, SENT, OFFER, look, *sent, status, *handler])
     settle = ["settle", *handler]
     other = run_of([FILL, SENT, OFFER, look, status, *sent, *settle])._replace(fault=None)
-    rounds = [step._replace(place=f"2.{at - len(other.steps) + 5}") if at > len(other.steps) - 6 and step.place else step
+    count = len(other.steps)
+    rounds = [step._replace(place=f"2.{at - count + 5}") if at > count - 6 and step.place else step
               for at, step in enumerate(other.steps)]
     told = logic().reasons(run, other._replace(steps=tuple(rounds)))
     begin = len(SET_UP)
     server.check("cut in: the look", [(one["kind"], one["step"] - begin, one["isHint"]) for one in told],
                  [("quiet", 3, True)])
     server.check("cut in: the steps", sorted(more["step"] - begin for more in told[0]["more"]), [8, 9])
-    server.check("cut in: where", [text in told[0]["rest"] for text in (
-        "inside the driver's call (1.", "after the driver's call (2.", "after stopping, it must check again")], [True] * 3)
+    for text in "inside the driver's call (1.", "after the driver's call (2.", "after stopping, it must check again":
+        server.check(f"cut in: {text}", text in told[0]["rest"], True)
     late = logic().reasons(run_of([FILL, SENT, OFFER, status, *sent, *handler]), None)
     server.check("cut in: no look", [(one["kind"], one["step"] - begin) for one in late], [("quiet", 8)])
 
@@ -130,8 +133,9 @@ def lines_seen(server):
 def short_logs(server):
     """A page has what other keys tell only once, and steps with which both runs begin, too. The log is the same."""
     steps = (Step("driver", "read", "1.1", "ICR", 4, 7), Step("handler", "write", "1.2", "RDT", 4, 7),
-             Step("wire", "arrive", size=60, data=bytes(60), outcome="stored"), Step("adapter", "rxdone", outcome="done"),
-             Step("driver", "read", "1.3", "EERD", 2, 1), Step("driver", "rxdone"), Step("adapter", "hold", outcome="phy"))
+             Step("wire", "arrive", size=60, data=bytes(60), outcome="stored"),
+             Step("adapter", "rxdone", outcome="done"), Step("driver", "read", "1.3", "EERD", 2, 1),
+             Step("driver", "rxdone"), Step("adapter", "hold", outcome="phy"))
     for others in (steps, steps[:3], (), steps[1:], (*steps[:3], steps[5])):
         runs = [RunLog("x y", ("1.1 rx before read ICR",), "it \" fails", steps), RunLog("x y", (), None, others)]
         text = short_text_of(runs)
