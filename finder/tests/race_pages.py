@@ -125,8 +125,8 @@ def rules(server):
     run, other = logs_of(server, [*QUEUE, "txstop"], TXSTOP)
     lanes_of_run = list(dict.fromkeys(step.actor for step in run.steps if step.is_access()))
     server.check("rules: txstop, the handler has a lane", lanes_of_run, ["driver", "handler"])
-    server.check("rules: txstop", [(one["kind"], one["isHint"], run.steps[one["step"]][1:4])
-                                   for one in logic().reasons(run, other)], [("quiet", True, ("read", "6.14", "tx[0]+12"))])
+    told = [(one["kind"], one["isHint"], run.steps[one["step"]][1:4]) for one in logic().reasons(run, other)]
+    server.check("rules: txstop", told, [("quiet", True, ("read", "6.14", "tx[0]+12"))])
 
 
 def pairs(server):
