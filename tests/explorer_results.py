@@ -27,7 +27,7 @@ SEEN = [("stages", "right --explore 1", [True, True, True, True, False, None], 3
          "before 13 of 35 kinds of places; never before 22 that only round 0 has"),
         ("stages", "offers:right --explore 1", [True, True, False, False, True, None], 34, 24, ["write PBA"],
          "never before write PBA, nor before 23 that only round 0 has"),
-        ("stages", "cuts:cuts --explore 2 --all", [True, False, True, False, False, True], 38, 24, ["arrive"], None),
+        ("stages", "cuts:cuts --explore 2 --all", [True, False, True, True, False, True], 38, 24, ["arrive"], None),
         ("stages", "cuts:right --explore 1", [True, False, True, False, False, False], 40, 24, ["handler on"],
          "never before arrive, nor before 23 that only round 0 has"),
         ("passes", "masked --explore every", [False, False, None, None, False, False], 12, 11, ["write memory"],

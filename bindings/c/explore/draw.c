@@ -92,27 +92,31 @@ static bool is_turn(uint64_t possible)
     return run.settings.mode == SCHEDULE_UNIFORM ? possible & run.chosen & run.left : possible && run.chosen;
 }
 
-/* Draws from the beginning of the table that has all steps and all that is possible: a shorter table is faster. */
-static uint32_t next_of_run(uint64_t possible)
+/* Draws from the part of the table, from `first` on, that has all steps and all that is possible: a shorter table is
+ * faster. */
+static uint32_t next_of_run(uint64_t possible, unsigned first)
 {
     uint64_t steps = (BIT(xi_device->kinds) - 1) & ~(uint64_t)xi_device->clocks;
-    uint64_t actions = xi_pct.depth ? possible : possible | steps;
+    uint64_t actions = (xi_pct.depth || first ? possible : possible | steps) >> first;
     size_t count = actions ? 64 - (size_t)__builtin_clzll(actions) : 0;
+    uint32_t action = schedule_search_draw_next(&run, xi_table + first, count, possible >> first);
 
-    return schedule_search_draw_next(&run, xi_table, count, possible);
+    return action == SCHEDULE_NONE ? SCHEDULE_NONE : first + action;
 }
 
 /* Draws what is done at this place. */
 static void draw_here(bool with_holds)
 {
     uint64_t possible = drawable(with_holds);
+    uint64_t steps = possible & (BIT(PAIR) - 1); /* without one, what is done ends the place */
+    unsigned first = possible && !steps ? (unsigned)__builtin_ctzll(possible) : 0;
     bool is_call = xi_pct.depth && B->event == CALL, is_inside = S->handlers;
     uint32_t action;
 
     if (possible || xi_pct.depth)
-        schedule_search_draw_place(&run, &(struct schedule_site){ possible, poll_here(), B->event >= ARRIVE,
+        schedule_search_draw_place(&run, &(struct schedule_site){ steps, poll_here(), B->event >= ARRIVE,
                                                                   is_inside ? HANDLER : DRIVER });
-    while (is_turn(possible) && (action = next_of_run(possible)) != SCHEDULE_NONE) {
+    while (is_turn(possible) && (action = next_of_run(possible, first)) != SCHEDULE_NONE) {
         if (is_call)
             return;
         xi_deviate((int)action);
