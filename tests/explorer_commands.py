@@ -1,7 +1,7 @@
-"""Tests tools/races itself: the same test has the same results in process and over pipes, in each language, and for each
-number of jobs; and what COMMANDs do wrong has a sentence and a status, and leaves no process behind.
+"""Tests tools/races itself.
 
-tests/explore.py runs these parts.
+The same test has the same results in process and over pipes, in each language, and with each number of jobs. What a
+COMMAND does wrong has a sentence and a status, and no process remains. tests/explore.py runs these parts.
 """
 
 import json
@@ -44,8 +44,8 @@ ENDS = {
     "sends nothing": ("true", NOTHING, None),
     "prints zeros": ("head -c 100000 /dev/zero; echo; read a; exit 4", FOUND, "exit status 4"),
 }
-# A COMMAND in Python: a frame is lost if it is finished between the last look and the read of ICR. Each run is a part of
-# one process, which counts them in the file PIDS. With `keeps`, a run fails if an earlier one was played here.
+# A COMMAND in Python. A frame is lost if it is finished between the last look and the read of ICR. A process plays many
+# runs, and appends its number to the file PIDS. With `keeps`, a run fails if earlier ones were played here.
 SMALL = """
 import os, sys
 def ask(request):
@@ -168,9 +168,10 @@ def shrinks(bench):
     recorded = bench.source("recorded.txt", "# recorded\noptions --missed 0\n3.4 rxdata before write RDT\n"
                                             "3.6 rxdone before read ICR\n7.6 rx before read ICR\n")
     status, out, errors = races(bench, "--shrink", recorded, "--", *test)
-    bench.check("shrinks: a race", (status, "2 deviations: exit status 1: frame 1" in out, f"\n{SMALLEST}\n" in out, errors),
-                (FOUND, True, True, ""))
-    bench.check("shrinks: none", races(bench, "--shrink", "/dev/null", "--", *test), (PASSES, "The test passes.\n", ""))
+    got = status, "2 deviations: exit status 1: frame 1" in out, f"\n{SMALLEST}\n" in out, errors
+    bench.check("shrinks: a race", got, (FOUND, True, True, ""))
+    bench.check("shrinks: none", races(bench, "--shrink", "/dev/null", "--", *test),
+                (PASSES, "The test passes.\n", ""))
     far = bench.source("far.txt", "999.1 rx before read ICR\n")
     bench.check("shrinks: too far", races(bench, "--shrink", far, "--", *test),
                 (USAGE, "", f"races: {far}: line 1: the run doesn't reach this place\n"))
@@ -179,7 +180,8 @@ def shrinks(bench):
 def resets(bench):
     """A COMMAND that asks for its next run by `reset` plays many runs in a process, and one from nothing at the end."""
     small, pids = bench.source("small.py", SMALL), os.path.join(bench.folder, "pids")
-    for name, wanted, most in (("right", (PASSES, "passes", []), 4), ("wrong", (FOUND, "fails", ["4.3 rx before read ICR"]), 30),
+    race = FOUND, "fails", ["4.3 rx before read ICR"]
+    for name, wanted, most in (("right", (PASSES, "passes", []), 4), ("wrong", race, 30),
                                ("keeps", (FOUND, "unrepeatable", []), 30)):
         if os.path.exists(pids):
             os.remove(pids)
@@ -205,21 +207,21 @@ def is_left(mark):
 
 
 def ended_commands(bench):
-    """What a COMMAND does wrong has a sentence and a status, and no process is left behind."""
+    """What a COMMAND does wrong has a sentence and a status, and no process remains."""
     for number, (name, (script, wanted, fault)) in enumerate(ENDS.items()):
         mark = f"RACES_MARK={os.getpid()}.{number}"
         key, _, value = mark.partition("=")
-        status, out, errors = bench.run(RACES, "--seconds", "1", "--runs", "4", "--jobs", "2", "--json", "--", "sh", "-c",
-                                        script, env={"RACES_LIBRARY": bench.library, key: value})
+        words = "--seconds", "1", "--runs", "4", "--jobs", "2", "--json", "--", "sh", "-c", script
+        status, out, errors = bench.run(RACES, *words, env={"RACES_LIBRARY": bench.library, key: value})
         bench.check(f"ended commands: {name}", (status, json.loads(out)["fault"], errors), (wanted, fault, ""))
         bench.check(f"ended commands: {name}: none is left", is_left(mark), False)
     bench.check("ended commands: none", races(bench, "--", "./nonesuch"),
                 (NOT_RUN, "", "races: ./nonesuch: No such file or directory\n"))
     script = bench.source("other.sh", "echo events on; read a; echo \"writel 0xFEB02800 0x$$\"; read a\n")
     status, out, _ = races(bench, "--", "sh", script)
-    bench.check("ended commands: another line each time", (status, bool(re.match(
-        r"after 0\.0, COMMAND sends `writel 0xFEB02800 0x\d+` in the first run, and sends `writel 0xFEB02800 0x\d+` then\n"
-        r"a second run isn't as the first one", out))), (NOT_RUN, True))
+    sends = r"sends `writel 0xFEB02800 0x\d+`"
+    wanted = rf"after 0\.0, COMMAND {sends} in the first run, and {sends} then\na second run isn't as the first one"
+    bench.check("ended commands: another line each time", (status, bool(re.match(wanted, out))), (NOT_RUN, True))
 
 
 def stopped_commands(bench):
@@ -228,8 +230,9 @@ def stopped_commands(bench):
     for number in (signal.SIGINT, signal.SIGTERM, signal.SIGHUP):
         for search in ("--runs 1000000", "--explore 4"):
             key, value = "RACES_MARK", f"{os.getpid()}.{number}.{search.replace(' ', '')}"
-            ran = subprocess.Popen([RACES, *search.split(), "--", *test], stdout=subprocess.PIPE, stderr=subprocess.STDOUT,
-                                   text=True, env={**os.environ, "RACES_LIBRARY": bench.library, key: value})
+            ran = subprocess.Popen([RACES, *search.split(), "--", *test], stdout=subprocess.PIPE,
+                                   stderr=subprocess.STDOUT, text=True,
+                                   env={**os.environ, "RACES_LIBRARY": bench.library, key: value})
             time.sleep(2)
             ran.send_signal(number)
             out = ran.communicate(timeout=20)[0]

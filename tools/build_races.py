@@ -2,10 +2,10 @@
 
 usage: python3 -B tools/build_races.py [WORDS..]; `tools/races` calls it
 
-The program is linked with the library of the present sources (tools/library): the proved one if it is kept, or else a
-quick one, which has run-time checks in place of the proof. Without an `rt` on the PATH, the library is that of the
-folder dist. RACES_LIBRARY may name a FOLDER in which tools/library has written a library. This one is taken if it is
-newer than all sources. The exit status is the program's. It is 70 if no program could be built.
+The program is linked with the library of the present sources (tools/library). This is the proved one if it is kept, or
+else a quick one, which has run-time checks in place of the proof. Without an `rt` on the PATH, the library is that of
+the folder dist. RACES_LIBRARY may name a FOLDER in which tools/library has written a library. This one is taken if it
+is newer than all sources. The exit status is the program's. It is 70 if no program could be built.
 """
 
 from __future__ import annotations

@@ -1,5 +1,6 @@
 /* A test without a handler that cuts in: its places are the same in process and over pipes, with --pipe. usage: polled
- * right|wrong|offers. `wrong` reads ICR after its last look for a frame; so does `offers`, whose second frame is offered. */
+ * right|wrong|offers. `wrong` reads ICR after its last look for a frame; so does `offers`, whose second frame is
+ * offered. */
 #include <nic82540em_explore.h>
 #include <string.h>
 

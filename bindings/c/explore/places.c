@@ -1,6 +1,5 @@
-/* What runs of all kinds do at a place: steps of the device, deviations, and the history of what the test has seen. Where
- * the places come from is another matter: bus.c has those of a test in this process.
- */
+/* What runs of all kinds do at a place: steps of the device, deviations, and the history of what the test has seen.
+ * Where the places come from is another matter: bus.c has those of a test in this process. */
 #include "inside.h"
 #include <stdio.h>
 #include <string.h>

@@ -151,7 +151,7 @@ static int options_here(uint8_t *actions)
         if (is_tried && is_possible(action))
             actions[count++] = (uint8_t)action;
     }
-    for (unsigned answer = 1; B->event == CHOOSE && answer < B->address && answer <= MOST_ANSWERS; answer++)
+    for (unsigned answer = 1; B->event == CHOOSE && answer < B->address && answer < MOST_ANSWERS; answer++)
         actions[count++] = (uint8_t)(CHOICE + answer - 1);
     return count;
 }

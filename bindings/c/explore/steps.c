@@ -1,9 +1,10 @@
-/* The steps of a run in JSON: an object in a line for each access, request, step, change of the interrupt line, and place
- * where the handler cuts in. `--replay FILE --log --json` prints them, and a page contains them (html.c). The keys are
- * described in docs/RACES.md, "The log of a run".
+/* The steps of a run in JSON: an object in a line for each access, request, step, change of the interrupt line, and
+ * place where the handler cuts in. `--replay FILE --log --json` prints them, and a page contains them (html.c). The
+ * keys are described in docs/RACES.md, "The log of a run".
  *
- * With --log --json, the log has a first line with the command and the schedule, and its last line is what --json prints
- * alone. */
+ * With --log --json, the log has a first line with the command and the schedule, and its last line is what --json
+ * prints alone.
+ */
 #define _GNU_SOURCE
 #include "inside.h"
 #include <string.h>

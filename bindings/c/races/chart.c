@@ -1,5 +1,5 @@
-/* The chart of the run that was found or replayed: tools/run_chart draws it, from the log of this run. tools/races names
- * this program by NIC_CHART. */
+/* The chart of the run that was found or replayed: tools/run_chart draws it, from the log of this run. tools/races
+ * names this program by NIC_CHART. */
 #define _GNU_SOURCE
 #include "races.h"
 #include <stdlib.h>

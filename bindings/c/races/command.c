@@ -1,7 +1,8 @@
 /* The process of COMMAND: its pipes, its end, and the time of a run.
  *
- * COMMAND has a process group of its own, and is ended with it. What its processes leave behind in other groups comes to
- * this process, which asks for orphans (PR_SET_CHILD_SUBREAPER), and is ended, too. If this process is ended, so is COMMAND.
+ * COMMAND has a process group of its own, and is ended with it. What its processes leave behind in other groups comes
+ * to this process, which asks for orphans (PR_SET_CHILD_SUBREAPER), and is ended, too. If this process is ended, so is
+ * COMMAND.
  */
 #define _GNU_SOURCE
 #include "races.h"
@@ -183,8 +184,8 @@ static void note_end(int options)
         one.has_ended = true;
 }
 
-/* Waits until one of COMMAND's files can be used, or it ends. `writes`: also until it can be told something. Returns false
- * if the time of the run has ended. */
+/* Waits until one of COMMAND's files can be used, or it ends. `writes`: also until it can be told something. Returns
+ * false if the time of the run has ended. */
 static bool waits(bool reads, bool writes)
 {
     struct pollfd files[] = { { reads && !one.is_silent ? one.from : NO_FILE, POLLIN, 0 }, { one.errors, POLLIN, 0 },

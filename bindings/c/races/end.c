@@ -36,8 +36,8 @@ static size_t last_line(const char **errors, size_t size)
     return size;
 }
 
-/* The fault of a COMMAND that has ended with this status; NULL if it has passed. Its last line on standard error is a part
- * of it. */
+/* The fault of a COMMAND that has ended with this status; NULL if it has passed. Its last line on standard error is a
+ * part of it. */
 const char *xr_status_fault(int status, const char *errors, size_t size)
 {
     char kind[64];

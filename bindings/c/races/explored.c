@@ -1,7 +1,7 @@
-/* A search of all schedules, by several processes. The schedules of one first deviation belong together: the first deviations
- * are dealt out to the jobs in turn, and each job searches what begins with its own ones. A first deviation has a number, in
- * the order in which one process would try them. So what is found first doesn't depend on the number of jobs.
- */
+/* A search of all schedules, by several processes. The schedules of one first deviation belong together: the first
+ * deviations are dealt out to the jobs in turn, and each job searches what begins with its own ones. A first deviation
+ * has a number, in the order in which one process would try them. So what is found first doesn't depend on the number
+ * of jobs. */
 #define _GNU_SOURCE
 #include "races.h"
 #include <signal.h>
@@ -26,7 +26,8 @@ static struct {
     unsigned round, access, stage;
     int action;
 } firsts[MOST_FIRSTS]; /* the first deviations, by their numbers */
-static double tried[MOST_FIRSTS + 1][DEEPEST + 1], tried_before[DEEPEST + 1]; /* by their first deviations; all so far */
+static double tried[MOST_FIRSTS + 1][DEEPEST + 1]; /* the numbers of schedules, by their first deviations */
+static double tried_before[DEEPEST + 1];           /* all that the search has tried before the last run */
 static unsigned most_firsts; /* how many of these a job had */
 static unsigned job, all, met; /* this job; all jobs; how many first deviations the run has met so far */
 static volatile unsigned *best; /* the least first deviation with which a schedule fails, of all jobs */

@@ -1,5 +1,5 @@
-/* The runs without deviations: what COMMAND does by itself. A COMMAND whose lines differ from run to run can't be searched,
- * and the first line that differs is told. */
+/* The runs without deviations: what COMMAND does by itself. A COMMAND whose lines differ from run to run can't be
+ * searched, and the first line that differs is told. */
 #include "races.h"
 #include <stdlib.h>
 #include <string.h>
@@ -80,8 +80,8 @@ static int unequal(const struct outcome *first, const struct outcome *then)
     return xi_unsaved("a second run isn't as the first one, without any deviation");
 }
 
-/* Plays the run without deviations three times, each in a process of its own. Returns the exit status if the run fails, or
- * if a later run isn't as the first one, or else -1. */
+/* Plays the run without deviations three times, each in a process of its own. Returns the exit status if the run fails,
+ * or if a later run isn't as the first one, or else -1. */
 int xr_play_first(void)
 {
     struct outcome first = play(KEEP), then;

@@ -1,8 +1,8 @@
-/* Runs in several processes at once. Each of these jobs plays its share of the runs, and sends what they have shown. The
- * results are taken in the order of the runs, so they are those of one process.
+/* Runs in several processes at once. Each of these jobs plays its share of the runs, and sends what they have shown.
+ * The results are taken in the order of the runs, so they are those of one process.
  *
- * A job ends when this process ends, and when it gets a signal. It is pinned to a processor, with its COMMAND: both take
- * turns, and a line wakes the other one without a move to another processor.
+ * A job ends when this process ends, and when it gets a signal. It is pinned to a processor, with its COMMAND: both
+ * take turns, and a line wakes the other one without a move to another processor.
  */
 #define _GNU_SOURCE
 #include "races.h"
@@ -157,8 +157,8 @@ static void receive_kinds(unsigned job)
 
 /* Start and end */
 
-/* Starts jobs, at most one for each of `most` shares of the work. Each calls `work` with its number and the number of jobs,
- * and then sends what it has reached. Returns the number of jobs; 1 if the work is done by this process. */
+/* Starts jobs, at most one for each of `most` shares of the work. Each calls `work` with its number and the number of
+ * jobs, and then sends what it has reached. Returns the number of jobs; 1 if the work is done by this process. */
 unsigned xr_begin_jobs(uint64_t most, void (*work)(unsigned job, unsigned all))
 {
     unsigned all = most < xr_given.jobs ? (unsigned)most : xr_given.jobs;

@@ -1,10 +1,10 @@
-/* Known states. A run of COMMAND can't be saved, but all that follows from a place is known if COMMAND was told the same
- * before, and the adapter and its memory are the same. So the key of a place is a hash of all lines and answers, and the
- * digest of the server. It doesn't cover frames that the server keeps until COMMAND fetches them: there are none while
- * events are on.
+/* Known states. A run of COMMAND can't be saved, but all that follows from a place is known if COMMAND was told the
+ * same before, and the adapter and its memory are the same. So the key of a place is a hash of all lines and answers,
+ * and the digest of the server. It doesn't cover frames that the server keeps until COMMAND fetches them: there are
+ * none while events are on.
  *
- * A digest takes longer than a short run. So it is made only where many schedules follow: before the last deviation, and
- * shortly after an earlier one, where exchanged steps lead to equal states.
+ * A digest takes longer than a short run. So it is made only where many schedules follow: before the last deviation,
+ * and shortly after an earlier one, where exchanged steps lead to equal states.
  */
 #include "races.h"
 #include <string.h>
@@ -64,8 +64,8 @@ static const char *digest(void)
     return xr_told() + at;
 }
 
-/* The key of the state at this place. Of jobs, the states without deviations are others: not all that follows from one of
- * them is searched by one job. */
+/* The key of the state at this place. Of jobs, the states without deviations are others: not all that follows from one
+ * of them is searched by one job. */
 struct digest xi_digest(void)
 {
     const char *text = digest();

@@ -29,8 +29,8 @@ static void take_address(const char *value)
     unsigned bytes[6];
     char rest;
 
-    if (strlen(value) != 17 || sscanf(value, "%2x:%2x:%2x:%2x:%2x:%2x%c", &bytes[0], &bytes[1], &bytes[2], &bytes[3], &bytes[4],
-                                      &bytes[5], &rest) != 6)
+    if (strlen(value) != 17 || sscanf(value, "%2x:%2x:%2x:%2x:%2x:%2x%c", &bytes[0], &bytes[1], &bytes[2], &bytes[3],
+                                      &bytes[4], &bytes[5], &rest) != 6)
         refuse("--address", "its value isn't an address such as 02:00:00:00:00:01");
     for (int n = 0; n < 6; n++)
         x_options.address[n] = (uint8_t)bytes[n];
@@ -50,7 +50,8 @@ static void take_image(const char *path)
     x_options.has_image = true;
 }
 
-static const char *const options[] = { "--memory", "--link", "--rxa", "--address", "--image", "--missed", "--registers" };
+static const char *const options[] = { "--memory", "--link",   "--rxa",      "--address",
+                                       "--image",  "--missed", "--registers" };
 
 bool xr_is_option(const char *word)
 {

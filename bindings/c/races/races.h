@@ -1,5 +1,6 @@
-/* What the sources of tools/races share: a search over the runs of a COMMAND, which sends lines of `nicbench serve` through
- * a pipe. Each line is answered in this process, and before some of them, the search lets the adapter take steps. */
+/* What the sources of tools/races share: a search over the runs of a COMMAND, which sends lines of `nicbench serve`
+ * through a pipe. Each line is answered in this process, and before some of them, the search lets the adapter take
+ * steps. */
 #ifndef RACES_H
 #define RACES_H
 

@@ -19,7 +19,8 @@ bool xr_is_at_place;
 unsigned xr_options;
 static unsigned offers; /* how many frames COMMAND has offered */
 
-/* The place at which the run is. Of an access of a ring, the address counts from the ring's first byte, as in the name. */
+/* The place at which the run is. Of an access of a ring, the address counts from the ring's first byte, as in the name.
+ */
 static struct place place_here(void)
 {
     struct place place = { B->event, 0, B->address, B->event == ENDED ? "the end" : xr_kept(name) };

@@ -94,7 +94,8 @@ static const unsigned engines[] = { TRANSMIT, TRANSMIT, RECEIVE, RECEIVE, CLOCK,
 const struct x_device xi_nic = {
     .name = "82540EM", .kinds = NIC_PHY + 1, .steps = steps, .engines = engines,
     .clocks = 1u << NIC_EEPROM | 1u << NIC_PHY,
-    .pairs = { { "tx", NIC_TXTAKE, NIC_TXPUT }, { "rx", NIC_RXDATA, NIC_RXDONE } }, .reset = reset, .possible = possible,
+    .pairs = { { "tx", NIC_TXTAKE, NIC_TXPUT }, { "rx", NIC_RXDATA, NIC_RXDONE } }, .reset = reset,
+    .possible = possible,
     .step = step, .read = read_register, .write = write_register, .line = xr_is_raised, .name_of = xi_nic_register,
     .arrive = arrive
 };

@@ -1,8 +1,8 @@
 /* The log of a run of COMMAND: its lines and the adapter's, as log.c prints them.
  *
- * While a run is logged, the server reports steps, accesses and events before each answer. COMMAND gets of these lines only
- * what it has asked for itself. So `log` and `events` are answered here, and so are `frames` and `faults`, of which the
- * server keeps none while events are on.
+ * While a run is logged, the server reports steps, accesses and events before each answer. COMMAND gets of these lines
+ * only what it has asked for itself. So `log` and `events` are answered here, and so are `frames` and `faults`, of
+ * which the server keeps none while events are on.
  */
 #include "races.h"
 #include <stdlib.h>
@@ -155,7 +155,8 @@ static void log_access(void)
     if (B->event > WRITE)
         xi_log_bytes(bytes, count);
     else
-        xi_log_value((uint32_t)bytes[0] | (uint32_t)bytes[1] << 8 | (uint32_t)bytes[2] << 16 | (uint32_t)bytes[3] << 24);
+        xi_log_value((uint32_t)bytes[0] | (uint32_t)bytes[1] << 8 | (uint32_t)bytes[2] << 16 |
+                     (uint32_t)bytes[3] << 24);
 }
 
 /* Keeps a frame that has arrived, or that was put on the wire: it is logged next. */

@@ -1,5 +1,5 @@
-/* What the sources of the search call for a test in this process, and what doesn't exist for a COMMAND: states that can be
- * saved, a stack of the test, and its memory. Each run is played from nothing. */
+/* What the sources of the search call for a test in this process, and what doesn't exist for a COMMAND: states that can
+ * be saved, a stack of the test, and its memory. Each run is played from nothing. */
 #define _GNU_SOURCE
 #include "races.h"
 #include <signal.h>
@@ -66,8 +66,9 @@ _Noreturn void xi_fail(const char *fault)
 /* A signal ends a wait for COMMAND. */
 void xi_on(int number, void (*handler)(int, siginfo_t *, void *), int flags)
 {
-    struct sigaction action = { .sa_sigaction = handler, .sa_flags = SA_SIGINFO | (flags & ~(SA_ONSTACK | SA_RESTART)) };
+    struct sigaction action = { .sa_sigaction = handler };
 
+    action.sa_flags = SA_SIGINFO | (flags & ~(SA_ONSTACK | SA_RESTART));
     sigaction(number, &action, NULL);
 }
 
