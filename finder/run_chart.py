@@ -1,11 +1,11 @@
 """Draws a run, from its log.
 
-LOG is what a test with the explorer, or tools/races, prints for --replay SCHEDULE --log --json. With --html, the page
-compares the run with that of OTHER, the log of the run without deviations.
+LOG is what a test with the explorer, or tools/races, prints for --replay SCHEDULE --log --json.
+With --html, the page compares the run with that of OTHER, the log of the run without deviations.
 
-Or LOG is what nicbench run --events writes. Then SCENARIO is the scenario that was run. The place 14 is event 14: a
-call with its answer, or a tick. 14.1 is a tick inside this call, after 1 of the call's accesses to memory and
-registers.
+Or LOG is what nicbench run --events writes. Then SCENARIO is the scenario that was run. The place
+14 is event 14: a call with its answer, or a tick. 14.1 is a tick inside this call, after 1 of the
+call's accesses to memory and registers.
 """
 
 from __future__ import annotations
@@ -25,8 +25,8 @@ from finder.vcd import vcd
 
 DRAWN, USAGE, UNWRITTEN = 0, 2, 3
 NOTE = """\
-Exit status: 0 if the run was drawn, 2 if an argument, SCENARIO or LOG is invalid, 3 if the output couldn't be written,
-141 if nobody reads it any more.
+Exit status: 0 if the run was drawn, 2 if an argument, SCENARIO or LOG is invalid, 3 if the output
+couldn't be written, 141 if nobody reads it any more.
 """
 
 

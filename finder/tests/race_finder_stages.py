@@ -33,8 +33,8 @@ def rows():
 
 
 def table(server):
-    """The schedule of each row shows its bug, and no smaller one does. The driver without the bug fails with it only if
-    it makes another access there.
+    """The schedule of each row shows its bug, and no smaller one does. The driver without the bug passes, unless it
+    makes another access there.
     """
     seen = []
     for bug, test, options, deviations in rows():
@@ -50,8 +50,9 @@ def table(server):
             server.check(f"table: {bug} isn't shown without a deviation", replay(server, "", command=command)[::2],
                          (PASSES, ""))
         _, out, errors = replay(server, text, *options, command=right)
-        end = out.splitlines()[-1:] == ["   The test passes."] or "at this place, the test makes another access" in out
-        server.check(f"table: right passes the schedule of {bug}", (end, errors), (True, ""))
+        others = "The test passes", "at this place, the test makes another access", "the run doesn't reach this place"
+        passes = any(text in out + errors for text in others)
+        server.check(f"table: right passes the schedule of {bug}", passes, True)
         if bug in AGAIN:
             status, _, errors = find(server, "--explore", "1", "--out", "found", command=command)
             server.check(f"table: the schedule of {bug} is found", (status, len(found_in(server)), errors),

@@ -15,7 +15,7 @@ from page_maker.command import MARK, make_site
 NAME = sources.LIBRARY
 FOLDERS = ("docs", "examples", "machines", "bench", "bindings", "crates", "finder")
 FILES = ("CHANGELOG.md", "LICENSE",
-         *(os.path.join("tools", name) for name in ("races", "run_chart", "sources.py", "to_pcap")))
+         *(os.path.join("tools", name) for name in ("run_chart", "sources.py", "to_pcap")))
 # The page for readers without the toolchain, in place of the README.md of the repository
 PAGE = os.path.join(os.path.dirname(os.path.abspath(__file__)), "release.txt")
 SHARED = f"lib/{shared_object.NAME}"
@@ -31,9 +31,16 @@ fi
 self=$(readlink -f "$0")
 exec "${self%/*}/bin/nicbench" "$@"
 """
+# In a release, the program of tools/races is built already.
+RACES = """#!/bin/sh
+# Finds races: see finder/README.md, or --help.
+self=$(readlink -f "$0")
+export NIC_CHART="${NIC_CHART-${self%/*}/run_chart}"
+exec "${self%/*/*}/bin/races" "$@"
+"""
 FINDER = """#!/bin/sh
 # Finds races: see nicbench-races(1).
-exec /usr/bin/python3 /usr/share/nicbench/tools/races "$@"
+exec /usr/share/nicbench/tools/races "$@"
 """
 
 
@@ -64,6 +71,16 @@ def add_library(tree, library, version):
     assert f"lib/{tree.links[SHARED]}" in tree.files, f"{library} has no {tree.links[SHARED]}"
 
 
+def add_races(tree, library, program):
+    """Adds the program of tools/races, linked with this library. Returns the help texts of both programs."""
+    tree.add("tools/races", RACES, True)
+    with tempfile.TemporaryDirectory() as folder:
+        path = os.path.join(folder, "races")
+        subprocess.run([os.path.join(sources.TOP, "bindings", "c", "races", "build"), library, path], check=True)
+        tree.add_file(path, "bin/races")
+        return help_texts.texts(program, [path])
+
+
 def add_man_pages(tree, found, version, moment):
     """Adds the pages of the help texts, in section 1, and those of the headers and their calls, in section 3."""
     for name, text in help_texts.man_pages(found, version, moment).items():
@@ -88,7 +105,7 @@ def release_tree(program, library, version, notes, moment):
         tree.add_folder(os.path.join(sources.TOP, name), name)
     add_library(tree, library, version)
     tree.add("VERSION", notes)
-    found = help_texts.texts(program, [os.path.join(sources.TOP, "tools", "races")])
+    found = add_races(tree, library, program)
     add_man_pages(tree, found, version, moment)
     tree.add("share/bash-completion/completions/nicbench", help_texts.bash(found))
     tree.add("share/zsh/site-functions/_nicbench", help_texts.zsh(found))
@@ -98,7 +115,8 @@ def release_tree(program, library, version, notes, moment):
 
 def place(path):
     """The path in a Debian package at which a file of the archive is installed."""
-    places = {"bin/nicbench": "usr/bin/nicbench", "LICENSE": "usr/share/doc/nicbench/copyright",
+    places = {"bin/nicbench": "usr/bin/nicbench", "bin/races": "usr/lib/nicbench/races",
+              "LICENSE": "usr/share/doc/nicbench/copyright",
               "share/zsh/site-functions/_nicbench": "usr/share/zsh/vendor-completions/_nicbench"}
     is_system = path.split("/")[0] in ("lib", "include", "share")
     return places.get(path) or f"usr/{path}" if is_system or path in places else f"usr/share/nicbench/{path}"
@@ -133,6 +151,7 @@ def debian_links(tree):
     return {
         **found,
         "usr/share/nicbench/bin/nicbench": "../../../bin/nicbench",
+        "usr/share/nicbench/bin/races": "../../../lib/nicbench/races",
         "usr/share/nicbench/.build/nicbench": "../../../bin/nicbench",
         "usr/share/nicbench/.build/library": "../../..",
         "usr/share/nicbench/LICENSE": "../doc/nicbench/copyright",
@@ -150,7 +169,7 @@ def debian_tree(tree, version, maintainer, moment):
             data = data.replace(b"prefix=${pcfiledir}/../..\n", b"prefix=/usr\n", 1)
         elif path.startswith("share/man/"):
             target, data = f"{target}.gz", gzip.compress(data, 9, mtime=0)
-        elif path == "bin/nicbench" or path.startswith(f"{SHARED}."):
+        elif path in ("bin/nicbench", "bin/races") or path.startswith(f"{SHARED}."):
             data = stripped(data)
         made.add(target, data, path in tree.programs)
     made.add("usr/bin/nicbench-races", FINDER, True)

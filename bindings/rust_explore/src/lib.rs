@@ -211,7 +211,7 @@ pub fn explored<T: Fn(Explored)>(test: T) -> bool {
 }
 
 /// A line of the report as `cargo test` needs it: with variables in place of options. There is none for the line of a
-/// chart, since a test of `cargo test` has other texts on its standard output than the requests of a driver.
+/// chart, since `cargo test` prints other texts on its standard output, too.
 fn for_cargo(line: &str, command: &str) -> Option<String> {
     if line.starts_with("For its chart:") {
         return None;
