@@ -13,6 +13,10 @@ FORMAT, VERSION = "nic82540em race log", 2
 # Who acts in a step. A scenario has other actors: its hosts and its wires.
 DRIVER, HANDLER, ADAPTER, WIRE = "driver", "handler", "adapter", "wire"
 ACTORS = (DRIVER, HANDLER, ADAPTER, WIRE)
+# Actions that tell the actor; all others are the driver's
+OF_ADAPTER = "rxdata", "rxdone", "txtake", "txput", "eeprom", "phy", "raise", "lower", "hold", "fault"
+OF_WIRE = "arrive", "frame"
+REGISTER_SIZE = 4
 MOST_BYTES = 64 << 20  # of a log
 UNENDED = "the log has no end: the process of the test ended before"
 
@@ -23,7 +27,7 @@ class LogError(Exception):
 
 class Step(NamedTuple):
     """A step of a run. A size that isn't known is 0, and other values are None. In a page, `data` has the first bytes
-    of a long access, or the last bytes of a frame.
+    of a long access, or the first and the last bytes of a long frame.
     """
     actor: str
     action: str
@@ -61,6 +65,21 @@ def plain_step(step: Step) -> Dict[str, Any]:
     return fields
 
 
+def actor_of(action: str) -> str:
+    """The actor of a step that names none."""
+    return ADAPTER if action in OF_ADAPTER else WIRE if action in OF_WIRE else DRIVER
+
+
+def short_step(step: Step) -> Dict[str, Any]:
+    """A step as a page has it: without what its other keys tell."""
+    fields = plain_step(step)
+    if step.actor == actor_of(step.action):
+        del fields["actor"]
+    if step.name and step.value is not None and step.size == REGISTER_SIZE:
+        del fields["size"]
+    return fields
+
+
 def plain_run(run: RunLog) -> Dict[str, Any]:
     return {**run._asdict(), "schedule": list(run.schedule), "steps": [plain_step(step) for step in run.steps]}
 
@@ -74,10 +93,23 @@ def text_of(runs: Sequence[RunLog]) -> str:
     return "".join(f"{json.dumps(line)}\n" for line in lines)
 
 
+def short_text_of(runs: Sequence[RunLog]) -> str:
+    """The lines of the logs of one run or two, as a page has them. Steps with which both begin are there once."""
+    lines: List[Dict[str, Any]] = []
+    for number, run in enumerate(runs):
+        ours = runs[0].steps if number else ()
+        same = next((at for at, pair in enumerate(zip(run.steps, ours)) if pair[0] != pair[1]),
+                    min(len(run.steps), len(ours)))
+        head = {"format": FORMAT, "version": VERSION, "command": run.command, "schedule": list(run.schedule)}
+        lines += [head, *([{"same": same}] if same else ()), *map(short_step, run.steps[same:]),
+                  {"result": "fails" if run.fault else "passes", "fault": run.fault}]
+    return "".join(f"{json.dumps(line, separators=(',', ':'))}\n" for line in lines)
+
+
 def step_in(plain: Dict[str, Any]) -> Step:
     """The step in a line. Raises LogError."""
-    if not {"actor", "action"} <= plain.keys():
-        raise LogError("it is no step: it has no actor or no action")
+    if "action" not in plain:
+        raise LogError("it is no step: it has no action")
     for key, value in plain.items():
         kind = KEYS.get(key)
         if kind is None:
@@ -90,7 +122,8 @@ def step_in(plain: Dict[str, Any]) -> Step:
         raise LogError("'data' of a step isn't hexadecimal") from None
     if min(plain.get("size", 0), plain.get("value", 0)) < 0:
         raise LogError("a step has a number below 0")
-    fields: Dict[str, Any] = {**plain, "data": data}
+    actor, is_register = actor_of(str(plain["action"])), bool(plain.get("name")) and "value" in plain
+    fields: Dict[str, Any] = {"actor": actor, "size": REGISTER_SIZE if is_register else 0, **plain, "data": data}
     return Step(**fields)
 
 
@@ -140,8 +173,17 @@ class Reader:
             self.steps, self.is_ended = [], False
         elif "result" in plain:
             self.end(plain)
+        elif "same" in plain:
+            self.begin_as_before(plain["same"])
         else:
             self.steps.append(step_in(plain))
+
+    def begin_as_before(self, same: Any) -> None:
+        """The run begins with this many steps of the run before. Raises LogError."""
+        before = self.runs[-2].steps if len(self.runs) > 1 else ()
+        if not isinstance(same, int) or isinstance(same, bool) or not 0 <= same <= len(before) or self.steps:
+            raise LogError("no run before has so many steps")
+        self.steps = list(before[:same])
 
     def end(self, plain: Dict[str, Any]) -> None:
         """Takes a last line. Raises LogError."""

@@ -6,26 +6,31 @@ const MOST_CELLS = 4e6;  // of a table for the alignment of two parts; longer pa
 const PIECE = 1500;  // steps of such a piece
 const ACCESS_WEIGHT = 64;  // accesses are aligned first, and then the steps of the adapter
 
-const accessesOf = run => run.steps.flatMap((step, at) => isAccess(step) ? [at] : []);
+const LINE = /^line(: |$)/;
+const isLook = step => step.action === 'request' && LINE.test(step.outcome || '');  // the test looks at the line
+const isSeen = step => isAccess(step) || isLook(step);
+const accessesOf = run => run.steps.flatMap((step, at) => isSeen(step) ? [at] : []);
 const isSameAccess = (one, two) => one.action === two.action && one.name === two.name
   && (one.size || 0) === (two.size || 0);
+const isSameAnswer = (one, two) => one.value === two.value && one.data === two.data
+  && (isAccess(one) || one.outcome === two.outcome);
 const roundOf = step => /^\d+/.test(step.place || '') ? parseInt(step.place, 10) : null;
 
 /** What steps in one pair have in common. */
 function keyOf(step) {
-  const what = isAccess(step) ? `= ${step.name}` : `${step.name || ''} ${step.outcome || ''}`;
+  const what = isAccess(step) ? `= ${step.name}` : isLook(step) ? 'line' : `${step.name || ''} ${step.outcome || ''}`;
   return [step.actor, step.action, what].join();
 }
 
-/** The first access that has another value, or isn't the same: its index in each run, or null if the run has ended
- * before. `isSame` is whether only the value differs, and both are in the same round. Returns null if both runs make
- * the same accesses, with the same values.
+/** The first access, or look at the interrupt line, that has another value, or isn't the same: its index in each run,
+ * or null if the run has ended before. `isSame` is whether only the value differs, and both are in the same round.
+ * Returns null if both runs make the same accesses, with the same values.
  */
 function difference(run, other) {
   const mine = accessesOf(run), others = accessesOf(other);
   for (let n = 0; n < Math.min(mine.length, others.length); n++) {
     const one = run.steps[mine[n]], two = other.steps[others[n]], isSame = isSameAccess(one, two);
-    if (!isSame || one.value !== two.value || one.data !== two.data)
+    if (!isSame || !isSameAnswer(one, two))
       return { step: mine[n], other: others[n], isSame: isSame && roundOf(one) === roundOf(two) };
   }
   const n = Math.min(mine.length, others.length);

@@ -32,7 +32,7 @@ function find(text) {
     .includes(query)) : [];
   hits.forEach(row => row.classList.add('hit'));
   at('count').textContent = query ? `${hits.length} found` : '';
-  if (/^(sent )?frame \d+$/.test(query)) trail(query);
+  if (FRAME.test(query)) trail(query.replace(/[rt]\d/, one => one.toUpperCase()));
 }
 
 function nextHit(by) {
@@ -97,9 +97,13 @@ function onKey(event) {
 function onRow(event) {
   const row = event.target.closest('li');
   if (!row || event.target.closest('a')) return;
+  if (row.classList.contains('fold')) return unfold(rows.find(one => one.fold?.head === row).fold, isFolded(row));
+  if (row.classList.contains('end')) return show(Infinity, 'run');
   const isRight = row.step === undefined || row.second !== undefined && event.target.closest('s');
   show(isRight ? row.second : row.step, isRight ? 'other' : 'run');
 }
+
+const isFolded = head => head.firstChild.getAttribute('aria-expanded') === 'false';
 
 function onSlot(event) {
   const slot = event.target.closest('[data-slot]');

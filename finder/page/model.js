@@ -11,9 +11,10 @@
  *   the adapter hasn't fetched the descriptor, or if both are the same.
  * - `rx[3]=`: the descriptor's bytes as hexadecimal digits, and `..` for each byte that the log doesn't show.
  * - `rx frames`, `tx frames`: the frames in a packet buffer.
- * - `frame 3`, `sent frame 3`: where a frame is.
+ * - `frame R3`, `frame T3`: where a frame is. Frames are numbered from 0: R in the order of their arrival, T in the
+ *   order in which they are offered.
  */
-const DESCRIPTOR = 16, STATUS = 12, COMMAND = 11, DD = 1, EOP = 2, RS = 8, RST = 2 ** 26, MOST_SLOTS = 4096;
+const DESCRIPTOR = 16, LENGTH = 8, STATUS = 12, COMMAND = 11, DD = 1, EOP = 2, RS = 8, RST = 2 ** 26, MOST_SLOTS = 4096;
 const DRIVER = 'driver', HANDLER = 'handler', ADAPTER = 'adapter', WIRE = 'wire';
 /* An `F` is an `f` whose DD the driver has loaded. */
 const SLOTS = { d: "the driver's", s: 'staged', o: 'offered', p: 'in progress', f: 'finished',
@@ -26,6 +27,8 @@ const WRITABLE = { RCTL: 0x0607B33A, TCTL: 0x003FFFFA };
 const SIZES = [2048, 1024, 512, 256];  // of receive buffers, by RCTL.BSIZE
 const SLOT = /^(rx|tx)\[(\d+)\](?:\+(\d+))?$/;
 
+/** The name of a frame. */
+const nameOf = (ring, number) => `${ring === 'rx' ? 'R' : 'T'}${number ?? '?'}`;
 const hex = number => `0x${number.toString(16)}`;
 const byteText = byte => byte === null || byte === undefined ? '..' : byte.toString(16).padStart(2, '0');
 const namesIn = (value, names) => Object.entries(names || {}).filter(([bit]) => Math.floor(value / 2 ** bit) % 2)
@@ -33,7 +36,18 @@ const namesIn = (value, names) => Object.entries(names || {}).filter(([bit]) => 
 const causesOf = value => namesIn(value, NAMES.causes);
 const isRegister = name => /^[A-Z]|^register\[/.test(name);
 const isAccess = step => (step.action === 'read' || step.action === 'write') && !!step.name;
+const LAST_BYTES = 2, MOST_COPIED = 64;  // the last bytes of a frame that is cut; bytes of a frame that are kept
 const bytesOf = step => (step.data || '').match(/../g)?.map(two => parseInt(two, 16)) || [];
+
+/** The first bytes of a frame, as far as the log has them: of a frame that is cut, the last ones come after them. */
+function firstBytes(step) {
+  const bytes = bytesOf(step);
+  return (step.size || 0) > bytes.length ? bytes.slice(0, Math.max(0, bytes.length - LAST_BYTES)) : bytes;
+}
+
+const isKnown = byte => typeof byte === 'number';
+/** The first byte in which two lists differ, of those that both have; -1 if there is none. */
+const firstOther = (one, two) => one.findIndex((byte, at) => isKnown(byte) && isKnown(two[at]) && byte !== two[at]);
 
 class State {
   cells = {};
@@ -48,6 +62,10 @@ class State {
   moved = 0;  // bytes of the oldest frame that are in buffers
   piece = null;  // the piece in progress
   taken = [];  // frames in the transmit packet buffer, the oldest first
+  put = null;  // the frame that was put on the wire last
+  recorded = new Map();  // by causes that are recorded: the frames that have recorded them, and the steps
+  told = '';  // what the last step of the adapter has done, in words
+  bytes = [];  // what the last step has moved: pairs of a name and a list of bytes
   arrived = 0;
   sent = 0;
   at = 0;  // the number of the step
@@ -55,23 +73,23 @@ class State {
   wrong = [];  // what a read shows, although the steps before lead to another value
 
   /** Sets the text of a cell. A cell that isn't set yet has the text `before`. */
-  put(cell, text, before) {
+  set(cell, text, before) {
     if ((this.cells[cell] ?? before) !== text) this.cells[cell] = this.changed[cell] = text;
   }
 
   putNumber(register, value) {
     this.registers[register] = value;
-    this.put(register, hex(value));
+    this.set(register, hex(value));
   }
 
   putCauses() {
     this.putNumber('ICR', this.causes);
-    this.put('ICR?', causesOf(this.unsure & ~this.causes).join(' '), '');
+    this.set('ICR?', causesOf(this.unsure & ~this.causes).join(' '), '');
   }
 
   putRing(ring) {
     const letter = ring.name[0].toUpperCase();
-    this.put(ring.name, `${ring.size}`);
+    this.set(ring.name, `${ring.size}`);
     this.putNumber(`${letter}DH`, ring.head);
     this.putNumber(`${letter}DT`, ring.tail);
     ring.slots.forEach((_, at) => this.putSlot(ring, at));
@@ -82,15 +100,15 @@ class State {
     const address = one => one === null || one === undefined ? '?' : hex(one);
     const buffer = slot.state === 'd' && slot.buffer === null ? '' : address(slot.buffer);
     const fetched = 'pfF'.includes(slot.state) && slot.fetched !== slot.buffer ? address(slot.fetched) : '';
-    this.put(`${ring.name}[${at}]`, [slot.state, slot.frame ?? '', buffer, fetched].join('/'), 'd///');
+    this.set(`${ring.name}[${at}]`, [slot.state, slot.frame ?? '', buffer, fetched].join('/'), 'd///');
     let text = '';
     for (let byte = 0; byte < DESCRIPTOR; byte++) text += byteText(this.memory.get(begin + byte));
-    this.put(`${ring.name}[${at}]=`, /^\.+$/.test(text) ? '' : text, '');
+    this.set(`${ring.name}[${at}]=`, /^\.+$/.test(text) ? '' : text, '');
   }
 
   putFrames() {
-    this.put('rx frames', this.waiting.map(frame => frame.number).join(' '));
-    this.put('tx frames', this.taken.map(frame => frame.number ?? '?').join(' '));
+    this.set('rx frames', this.waiting.map(frame => frame.number).join(' '));
+    this.set('tx frames', this.taken.map(frame => frame.number ?? '?').join(' '));
   }
 
   record(...causes) {
@@ -100,7 +118,7 @@ class State {
 
   /** Notes where a frame is. */
   follow(ring, frame, where) {
-    if (frame !== null) this.put(`${ring.name === 'rx' ? 'frame' : 'sent frame'} ${frame}`, where);
+    if (frame !== null) this.set(`frame ${nameOf(ring.name, frame)}`, where);
   }
 
   // Memory
@@ -108,6 +126,11 @@ class State {
   /** Stores these bytes. Those after them, up to `size`, aren't known. */
   store(address, bytes, size) {
     for (let at = 0; at < Math.max(size, bytes.length, 1); at++) this.memory.set(address + at, bytes[at] ?? null);
+  }
+
+  /** The bytes in memory from an address on; null for each that isn't known. */
+  bytesAt(address, size) {
+    return Array.from({ length: Math.min(size || 0, MOST_COPIED) }, (_, at) => this.memory.get(address + at) ?? null);
   }
 
   /** The number in memory, or null if a byte of it isn't known. */
@@ -163,6 +186,8 @@ class State {
   // The driver
 
   access(step) {
+    if (!isRegister(step.name) && step.data && !SLOT.test(step.name))
+      this.bytes = [[step.action === 'read' ? 'loaded' : 'stored', bytesOf(step)]];
     if (isRegister(step.name)) {
       const call = step.action === 'read' ? 'readRegister' : 'writeRegister';
       if (step.value !== undefined) this[call](step.name, step.value);
@@ -202,6 +227,9 @@ class State {
 
   storeByDriver(step, address) {
     this.store(address, bytesOf(step), step.size || 0);
+    for (const one of this.taken)
+      if (step.data && address < one.buffer + Math.max(1, one.size) && one.buffer < address + (step.size || 1))
+        one.isStoredLater = true;
     for (const ring of Object.values(this.rings))
       for (const at of ring.slotsIn(address, step.size || 1)) {
         const slot = ring.slots[at];
@@ -225,13 +253,14 @@ class State {
       if ((value ^ this.causes) & ~this.unsure & ICR_BITS)
         this.wrong.push(`ICR is ${hex(value)} instead of ${hex(this.causes)}`);
       this.causes = this.unsure = 0;
+      this.recorded.clear();
       this.putCauses();
       return;
     }
     const known = this.registers[name];
-    const isKnown = COUNTERS.includes(name) || known !== undefined
+    const isFollowed = COUNTERS.includes(name) || known !== undefined
       && ['RDH', 'RDT', 'TDH', 'TDT', 'IMS', 'RCTL', 'TCTL'].includes(name);
-    if (isKnown && (known || 0) !== value) this.wrong.push(`${name} is ${hex(value)} instead of ${hex(known || 0)}`);
+    if (isFollowed && (known || 0) !== value) this.wrong.push(`${name} is ${hex(value)} instead of ${hex(known || 0)}`);
     this.putNumber(name, COUNTERS.includes(name) ? 0 : value);
   }
 
@@ -241,6 +270,7 @@ class State {
     } else if (name === 'ICR') {
       this.causes &= ~value;
       this.unsure &= ~value;
+      causesOf(value).forEach(cause => this.recorded.delete(cause));
       this.putCauses();
     } else if (name === 'ICS') {
       this.causes |= value & ICR_BITS;
@@ -271,7 +301,7 @@ class State {
         ring.isShown ||= slot.isStored;
         slot.state = slot.isStored ? 's' : 'd';
       });
-      this.put(ring.name, '0');  // so that no cell of an earlier ring is shown
+      this.set(ring.name, '0');  // so that no cell of an earlier ring is shown
     }
     const changed = this.offer(ring);
     if (isMoved) {
@@ -313,6 +343,7 @@ class State {
     this.rings = { rx: new Ring('rx'), tx: new Ring('tx') };
     this.causes = this.unsure = this.mask = this.moved = 0;
     [this.waiting, this.taken, this.piece] = [[], [], null];
+    this.recorded.clear();
     for (const name of Object.keys(this.registers)) if (!KEPT.includes(name)) this.putNumber(name, 0);
     this.putCauses();
     this.putNumber('IMS', 0);
@@ -331,7 +362,8 @@ class State {
     }
     if ((fate === 'missed' || fate === 'stored') && ring.head === ring.tail)
       this.putNumber('RNBC', (this.registers.RNBC || 0) + 1);
-    if (fate === 'stored') this.waiting.push({ number, size: step.size || 0 });
+    if (fate === 'stored') this.waiting.push({ number, size: step.size || 0, bytes: firstBytes(step) });
+    this.bytes = [['the frame', firstBytes(step)]];
     this.putFrames();
   }
 
@@ -349,7 +381,13 @@ class State {
     const slot = ring.slots[at];
     [slot.state, slot.frame, slot.fetched] = ['p', frame.number, slot.buffer ?? undefined];
     [slot.isStale, slot.isStored] = [true, false];
-    for (let byte = 0; slot.buffer !== null && byte < size; byte++) this.memory.delete(slot.buffer + byte);
+    const bytes = frame.bytes.slice(this.moved, this.moved + size);
+    for (let byte = 0; slot.buffer !== null && byte < size; byte++)
+      this.memory.set(slot.buffer + byte, bytes[byte] ?? null);
+    this.bytes = [['copied', bytes]];
+    const part = isLast && !this.moved ? '' : isLast ? 'the last piece of ' : 'a piece of ';
+    this.told = `${part}${nameOf('rx', frame.number)}${frame.size ? `, ${size} bytes,` : ''} goes to`
+      + ` ${slot.buffer === null ? '' : `${hex(slot.buffer)}, `}the buffer of rx[${at}]`;
     this.piece = { slot: at, address: ring.address(at), frame, size: frame.size ? size : 0, isLast };
     this.moved = isLast ? 0 : this.moved + size;
     ring.head = (at + 1) % ring.size;
@@ -372,8 +410,11 @@ class State {
     this.store(piece.address + 8, piece.size ? [piece.size & 255, piece.size >> 8] : [], 2);
     this.store(piece.address + 10, [0, 0, piece.isLast ? DD | EOP : DD, 0, 0, 0], 6);
     this.follow(ring, piece.frame.number, `rx[${piece.slot}]: finished`);
+    this.told = `rx[${piece.slot}] is written back with ${piece.isLast ? 'DD EOP' : 'DD, without EOP'}:`
+      + ` ${nameOf('rx', piece.frame.number)}`;
     if (piece.isLast) {
       this.record('RXT0');
+      this.recorded.set('RXT0', [...this.recorded.get('RXT0') || [], { frame: piece.frame.number, step: this.at }]);
       this.putNumber('GPRC', (this.registers.GPRC || 0) + 1);
     }
     if (piece.slot < ring.size) {
@@ -393,8 +434,13 @@ class State {
     const slot = ring.slots[at], command = this.memory.get(ring.address(at) + COMMAND) ?? null;
     [slot.state, slot.fetched] = ['p', slot.buffer ?? undefined];
     ring.head = (at + 1) % ring.size;
-    this.taken.push({ slot: at, address: ring.address(at), number: slot.frame,
-      hasRs: command === null ? null : !!(command & RS) });
+    const size = this.number(ring.address(at) + LENGTH, 2), bytes = this.bytesAt(slot.buffer ?? NaN, size);
+    slot.copy = { slot: at, address: ring.address(at), number: slot.frame, buffer: slot.buffer, size, bytes,
+      step: this.at, putAt: null, hasRs: command === null ? null : !!(command & RS) };
+    this.taken.push(slot.copy);
+    this.bytes = [['copied', bytes]];
+    this.told = `descriptor tx[${at}] and ${size === null ? 'the bytes' : `${size} bytes`} from`
+      + ` ${slot.buffer === null ? 'its buffer' : hex(slot.buffer)} are copied: ${nameOf('tx', slot.frame)}`;
     this.follow(ring, slot.frame, `tx[${at}]: in the transmit packet buffer`);
     if (ring.head === ring.tail) this.record('TXQE');
     this.putNumber('TDH', ring.head);
@@ -409,6 +455,10 @@ class State {
       this.wrong.push('txput without a frame');
       return;
     }
+    [this.put, one.putAt, this.bytes] = [one, this.at, [['put on the wire', one.bytes]]];
+    const without = one.hasRs === false ? ', without DD: RS is clear' : '';
+    const done = one.hasRs ? `, and DD is set in tx[${one.slot}]` : without;
+    this.told = `${nameOf('tx', one.number)} of tx[${one.slot}] goes to the wire${done}`;
     if (one.hasRs === null) {
       this.store(one.address + STATUS, [], 1);
       this.unsure |= BIT.TXDW;
@@ -427,17 +477,30 @@ class State {
     this.putFrames();
   }
 
+  /** The bytes of the frame that is on the wire now. */
+  seeFrame(step) {
+    const one = this.put, bytes = firstBytes(step);
+    this.bytes = [['on the wire', bytes]];
+    if (!one || !bytes.length) return;
+    bytes.forEach((byte, at) => {  // what is on the wire is what was copied
+      if (!isKnown(one.bytes[at])) one.bytes[at] = byte;
+    });
+    const now = one.isStoredLater ? this.bytesAt(one.buffer, bytes.length) : [];
+    if (firstOther(bytes, now) >= 0) this.bytes.push([`now at ${hex(one.buffer)}`, now]);
+  }
+
   setLine(isAsserted) {
     this.line = isAsserted;
-    this.put('line', isAsserted ? '1' : '', '');
+    this.set('line', isAsserted ? '1' : '', '');
   }
 
   /** Plays a step. Returns the cells that it changes, with their new texts. */
   play(step) {
-    this.changed = {};
+    [this.changed, this.told, this.bytes] = [{}, '', []];
     const { action, outcome } = step;
     if (isAccess(step)) this.access(step);
     else if (action === 'arrive') this.arrive(step);
+    else if (action === 'frame') this.seeFrame(step);
     else if (action === 'raise' || action === 'lower') this.setLine(action === 'raise');
     else if (action === 'rxdata' && (outcome === 'moved' || outcome === 'part')) this.move(outcome === 'moved');
     else if (action === 'rxdone') this.finish();

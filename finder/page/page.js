@@ -1,23 +1,13 @@
 /* The page: the list of steps, and the state after the step that is shown. */
-const MOST_STEPS = 4000, BEFORE = 500, MOST_REASONS = 4, MOST_LINES = 20, MOST_BUFFERS = 256;
+const MOST_STEPS = 4000, BEFORE = 500, MOST_REASONS = 4, MOST_LINES = 20, MOST_BUFFERS = 256, SHOWN_BYTES = 24;
 const HELP = [['\u2192 \u2193 Space', 'the next step'], ['\u2190 \u2191 Shift+Space', 'the step before'],
   ['PageUp PageDown', 'ten steps'], ['Home End', 'the first step, the last step'], ['w', 'where it goes wrong'],
   ['d', 'the next deviation'], ['c', 'compare with the run without deviations'], ['o', 'the same step in the other'
     + ' run'],
   ['/', 'search: Enter shows the next hit; n and N, too'], ['f', 'where was a frame?'], ['?', 'this list']];
+const FRAME = /^frame [RT]?\d+$/i;
 const at = id => document.getElementById(id);
 const escaped = text => text.replace(/[&<>"]/g, one => `&#${one.charCodeAt(0)};`);
-/** The runs whose logs are in a text, line by line. */
-function runsIn(text) {
-  const logs = [];
-  for (const line of text.split('\n').filter(one => one.trim())) {
-    const one = JSON.parse(line), last = logs[logs.length - 1];
-    if (one.format) logs.push({ ...one, fault: null, steps: [] });
-    else if (one.actor) last.steps.push(one);
-    else last.fault = one.fault;
-  }
-  return logs;
-}
 const LOGS = runsIn(at('data').textContent), PLACES = LOGS[0].places;
 const runs = { run: LOGS[0], other: LOGS[1] };
 const all = { run: shownOf(runs.run), other: runs.other && shownOf(runs.other) };
@@ -28,6 +18,7 @@ const stars = runs.run.steps.flatMap((step, n) => step.is_deviation ? [n] : []);
 // Of a long run, the page has MOST_STEPS steps, from BEFORE steps before the first deviation or finding on.
 const first = beginOf(), isInside = step => step !== null && step >= first && step < first + MOST_STEPS;
 const rows = [], rowsOf = { run: [], other: [] };
+const RING = PLACES ? 'rx' : firstRing();
 let side = 'run', now = 0, chosen = null, hits = [], buffersAreOpen = true;
 
 function beginOf() {
@@ -37,82 +28,16 @@ function beginOf() {
   return Math.max(0, Math.min(begin - BEFORE, length - MOST_STEPS));
 }
 
-// The head of the page, and the list of steps
-
-const linkTo = step => `<a href=#${step}>step ${step}</a>`;
-const hintOf = one => one.isHint || one.isLater ? ' hint' : '';
-const sectionOf = one => one.section ? ` See \u201C${escaped(one.section)}\u201D in docs/RACES.md.` : '';
-
-function headOf() {
-  const { run } = runs, lines = [`<h1>${escaped(run.command)}</h1>`], last = run.steps.length - 1;
-  if (run.fault) lines.push(`<p class=fault>${escaped(run.fault)}</p>`);
-  else lines.push(`<p>${PLACES ? `${run.steps.length} steps.` : 'The test passes.'}</p>`);
-  if (first || last >= first + MOST_STEPS)
-    lines.push(`<p>The page has the steps ${first} to ${Math.min(last, first + MOST_STEPS - 1)} of ${last + 1}.</p>`);
-  if (run.schedule.length) {
-    const shown = run.schedule.slice(0, MOST_LINES).map(line => `<code>${escaped(line)}</code>`).join(', ');
-    const more = run.schedule.length > MOST_LINES ? ` and ${run.schedule.length - MOST_LINES} more` : '';
-    lines.push(`<p>Schedule: ${shown}${more}${stars.length ? ` (${linkTo(stars[0])})` : ''}</p>`);
-  }
-  for (const one of found.slice(0, MOST_REASONS))
-    lines.push(`<p class="why${hintOf(one)}"><b>${one.isHint ? 'Perhaps ' : one.isLater ? 'Later, ' : ''}`
-      + `${linkTo(one.step)}</b>: ${escaped(one.text)}${one.isLater ? '' : sectionOf(one)}</p>`);
-  if (differsAt !== null)
-    lines.push(`<p class=diff>${linkTo(differsAt)}: ${escaped(firstText(differs, all.run, all.other))}</p>`);
-  return lines.join('\n');
-}
-
-/** The notes of a step, as HTML. */
-function notesOf(step) {
-  const notes = found.filter(one => one.step === step)
-    .map(one => `<em class="${hintOf(one)}">${escaped(one.text)}</em>`);
-  if (step === differsAt) notes.push(`<em class=first>${escaped(firstText(differs, all.run, all.other))}</em>`);
-  return notes.join('');
-}
-
-/** A row of the list: a step, the aligned step of the other run if its text differs, and notes. */
-function rowOf([step, second]) {
-  const row = document.createElement('li');
-  if (step === null) {
-    row.className = 'gap';
-    row.innerHTML = `<i>${escaped(runs.other.steps[second].place || '')}</i><s>${escaped(all.other.texts[second])}</s>`;
-  } else {
-    const one = runs.run.steps[step], text = all.run.texts[step], lane = lanes.indexOf(one.actor);
-    const classes = { dev: one.is_deviation, up: all.run.lines[step], only: runs.other && second === null,
-      why: found.some(its => its.step === step), differs: step === differsAt };
-    row.id = step;
-    row.className = Object.keys(classes).filter(name => classes[name]).join(' ');
-    const its = second === null ? text : all.other.texts[second], right = its === text ? '' : `<s>${escaped(its)}</s>`;
-    row.innerHTML = `<i>${escaped(one.place || '')}</i><b class=l${lane} data-lane="${escaped(lanes[lane])}">`
-      + `${escaped(text)}</b>${right}${notesOf(step)}`;
-    rowsOf.run.push(row);
-    row.step = step;
-  }
-  if (second !== null) {
-    rowsOf.other.push(row);
-    row.second = second;
-  }
-  rows.push(row);
-  return row;
-}
-
 function fill() {
-  const pairs = runs.other ? align(runs.run, runs.other) : runs.run.steps.map((_, n) => [n, null]);
   at('top').innerHTML = headOf();
-  at('lanes').innerHTML = '<span>step</span><span>place</span>' + lanes.map((lane, n) =>
-    `<b style="grid-column:${3 + n}">${escaped(lane)}</b>`).join('') + '<s>without deviations</s>';
-  at('columns').textContent = lanes.map((_, n) => n ? `.steps .l${n} { grid-column: ${3 + n} / span`
-    + ` ${lanes.length - n} }`
-    : '').join('\n');
-  document.querySelector('main').style.setProperty('--lanes', lanes.length);
-  at('steps').style.counterReset = `step ${first - 1}`;
-  at('steps').append(...pairs.map(pair => pair.map(step => isInside(step) ? step : null))
-    .filter(([step, second]) => step !== null || second !== null).map(rowOf));
+  fillList();
+  at('chips').innerHTML = chips();
+  at('what').hidden = !!PLACES;
   at('help').innerHTML = `<table>${HELP.map(([keys, what]) => `<tr><th scope=row>${keys.split(' ').map(key =>
     `<kbd>${key}</kbd> `).join('')}</th><td>${what}</td></tr>`).join('')}</table>`;
-  at('frame').innerHTML = '<option value="">where was frame'
-    + ' ..</option>' + [...new Set(all.run.changes.flatMap(Object.keys))]
-    .filter(name => /^(sent )?frame \d+$/.test(name)).map(name => `<option>${name}</option>`).join('');
+  at('frame').innerHTML = '<option value="">where was frame ..</option>'
+    + [...new Set(all.run.changes.flatMap(Object.keys))].filter(name => FRAME.test(name))
+      .map(name => `<option>${name}</option>`).join('');
 }
 
 const rowAt = (which, step) => rowsOf[which][step - first];
@@ -140,7 +65,7 @@ function slotOf(cells, name) {
   const [state, frame, buffer, fetched] = (cells[name] || 'd///').split('/');
   return { state, frame, buffer, fetched };
 }
-const frameName = (ring, number) => number === '' ? '' : `${ring === 'tx' ? 'sent frame' : 'frame'} ${number}`;
+const frameName = (ring, number) => number === '' ? '' : nameOf(ring, number);
 
 const table = (title, lines) => lines.length ? `<h2>${title}</h2><table>${lines.join('')}</table>` : '';
 const line = (changed, ...texts) => `<tr${changed ? ' class="changed"' : ''}>${texts.map((text, n) =>
@@ -148,7 +73,8 @@ const line = (changed, ...texts) => `<tr${changed ? ' class="changed"' : ''}>${t
 
 function registers(cells, changed) {
   return table('Registers', SHOWN.filter(name => cells[name] !== undefined).map(name => {
-    const more = name === 'ICR' && cells['ICR?'] ? ` (perhaps also ${cells['ICR?']})` : '';
+    const more = name === 'ICR' && cells['ICR?'] ? ` (perhaps also ${cells['ICR?']}: the log doesn't show what the PHY`
+      + ' has recorded)' : '';
     return line(changed.has(name), name, `${valueIn(name, +cells[name])}${more}`);
   }));
 }
@@ -211,13 +137,28 @@ function slotShown() {
   return 'rx[0]';
 }
 
-const legend = () => `<p class="legend">${Object.entries(SLOTS).map(([letter, name]) =>
-  `<span style="background:var(--${letter})">${short[letter]} ${name}</span>`).join('')}</p>`;
+/** The ring that has to do with the failure: it is shown first. */
+function firstRing() {
+  const words = [...found.map(one => one.text), ...stars.map(star => runs.run.steps[star].action), 'rx'].join(' ');
+  return /\b[rt]x/.exec(words)[0];
+}
+
+/** The bytes that a step moves, as a table. Bytes that differ from those in the line before are marked. */
+function bytesTable(lists) {
+  const lines = lists.map(([name, bytes], n) => {
+    const before = n ? lists[n - 1][1] : [], digits = bytes.slice(0, SHOWN_BYTES).map((byte, place) => {
+      const isOther = isKnown(byte) && isKnown(before[place]) && byte !== before[place];
+      return isOther ? `<mark>${byteText(byte)}</mark>` : byteText(byte);
+    });
+    return `<tr><th scope="row">${escaped(name)}</th><td class=bytes>${digits.join(' ')}</td></tr>`;
+  });
+  return lines.length ? `<table class=moved>${lines.join('')}</table>` : '';
+}
 
 function showState() {
   const row = rowAt(side, now), { cells, changed, buffers } = cellsAt(side, now), text = textIn(side, row);
   const hot = hotSlots(side, now), which = side === 'run' ? '' : ' (without deviations)';
-  const notes = side === 'run' ? notesOf(now) : '';
+  const notes = side === 'run' ? notesOf(now, true) : '';
   let out = `<p><b>Step ${now}${which}</b> <span class="who">${escaped(actor(row))}:`
     + ` ${escaped(text)}</span></p>${notes}`;
   if (PLACES) {
@@ -227,7 +168,8 @@ function showState() {
       `${name} packet buffer`, (cells[`${ring} frames`] || '').split(' ').filter(Boolean)
         .map(one => frameName(ring, one)).join(', ') || 'empty'));
     out += `<p><span class="line${cells.line ? ' up' : ''}">the interrupt line is ${cells.line ? 'asserted' : 'low'}`
-      + `</span></p><div class="rings">${ringOf('rx', cells, hot)}${ringOf('tx', cells, hot)}</div>` + legend()
+      + `</span></p>${bytesTable(all[side].bytes[now])}<div class="rings">`
+      + `${[RING, RING === 'rx' ? 'tx' : 'rx'].map(ring => ringOf(ring, cells, hot)).join('')}</div>` + legend()
       + registers(cells, changed) + table('Packet buffers', frames) + descriptor(slotShown(), cells)
       + ownersOf(cells, changed, buffers);
   }
@@ -253,6 +195,7 @@ function show(step, which = side, keepsHash = false) {
     row.removeAttribute('aria-current');
   });
   const row = rowAt(side, now);
+  if (row.classList.contains('folded')) unfold(row.fold, true);
   if (side === 'other' && !document.body.classList.contains('both')) compare(true);
   row.classList.add('now');
   row.classList.toggle('right', side === 'other');

@@ -1,8 +1,9 @@
 /* The drawing of a ring: slots as circles, with the head and the tail. */
-const short = { d: '', s: 'st', o: 'off', p: '..', f: 'DD', F: 'DD\u2713' };
+const short = { d: '', s: 'staged', o: 'offer', p: 'busy', f: 'DD', F: 'DD\u2713' };
 const MOST_DRAWN = 64, NEAR_HEAD = 16, DRAWN_OF_MORE = 48;  // slots
 const FEW_SLOTS = 12;  // a larger ring also has a list of its slots
 const RADIUS = 102, MIDDLE = 170;
+const SIDE = 0.3;  // of a slot farther from the middle than this, the marks are beside it
 
 /** The slots that are drawn: of a large ring, those near the head. */
 function drawnSlots(size, head) {
@@ -22,7 +23,8 @@ function rangesOf(name, cells, size) {
     + `${frame === '' ? '' : `, ${frameName(name, frame)}`}`).join('; ');
 }
 
-const textAt = (x, y, text, more = '') => `<text x="${x}" y="${y}" text-anchor="middle"${more}>${text}</text>`;
+const textAt = (x, y, text, more = '', anchor = 'middle') =>
+  `<text x="${x.toFixed(1)}" y="${y.toFixed(1)}" text-anchor="${anchor}"${more}>${text}</text>`;
 
 /** A slot: its circle, its number, its state, its frame, and the head and the tail if they are there. */
 function drawnSlot(label, slot, n, count, it, marks, isHot) {
@@ -34,16 +36,18 @@ function drawnSlot(label, slot, n, count, it, marks, isHot) {
     + ` cy="${y(RADIUS)}" r="${r}" fill="var(--${it.state})"><title>${about}</title></circle>`;
   const still = ' pointer-events="none"', inside = RADIUS - r - 12;
   if (r >= 20) {
-    out += textAt(x(RADIUS), y(RADIUS) - 1, slot, still) + textAt(x(RADIUS), y(RADIUS) + 13, short[it.state], still);
-    if (it.frame !== '') out += textAt(x(inside), y(inside) + 4, `${ring === 'tx' ? 's' : 'f'}${it.frame}`);
+    out += textAt(x(RADIUS), y(RADIUS) - 1, slot, still)
+      + textAt(x(RADIUS), y(RADIUS) + 12, short[it.state], `${still} class="small"`);
+    if (it.frame !== '') out += textAt(x(inside), y(inside) + 4, nameOf(ring, it.frame));
   } else if (r >= 12) {
     out += textAt(x(RADIUS), y(RADIUS) + 5, slot, still);
-    if (it.frame !== '') out += textAt(x(inside), y(inside) + 4, `${ring === 'tx' ? 's' : 'f'}${it.frame}`);
+    if (it.frame !== '') out += textAt(x(inside), y(inside) + 4, nameOf(ring, it.frame));
   } else if (slot % every === 0)
     out += textAt(x(inside), y(inside) + 4, slot);
+  const side = Math.cos(angle) > SIDE ? 'start' : Math.cos(angle) < -SIDE ? 'end' : 'middle';
   marks.forEach((mark, m) => {
-    const far = RADIUS + r + 17 + (every > 1 && mark.endsWith('T') ? 13 : 0);
-    out += textAt(x(far), y(far) - 6 * (marks.length - 1) + 12 * m, mark, ' font-weight="bold"');
+    const far = RADIUS + r + (side === 'middle' ? 17 : 10) + (every > 1 && mark.endsWith('T') ? 13 : 0);
+    out += textAt(x(far), y(far) + 4 - 6 * (marks.length - 1) + 12 * m, mark, ' font-weight="bold"', side);
   });
   return out;
 }
@@ -57,7 +61,7 @@ function ringOf(name, cells, hot) {
   const head = +(cells[letter + 'DH'] || 0), tail = +(cells[letter + 'DT'] || 0), slots = drawnSlots(size, head);
   const title = name === 'rx' ? 'Receive ring' : 'Transmit ring';
   const few = slots.length < size ? `, ${slots.length} shown` : '';
-  let out = textAt(MIDDLE, 166, title, ' font-weight="bold"') + textAt(MIDDLE, 184, `${size} slots${few}`);
+  let out = textAt(MIDDLE, 160, title, ' font-weight="bold"') + textAt(MIDDLE, 190, `${size} slots${few}`);
   let spoken = `${title}, ${size} slots.`;
   slots.forEach((slot, n) => {
     const label = `${name}[${slot}]`, it = slotOf(cells, label);
@@ -67,6 +71,6 @@ function ringOf(name, cells, hot) {
     out += drawnSlot(label, slot, n, slots.length, it, marks, hot.has(label));
   });
   const list = size > FEW_SLOTS ? `<p class="ranges">${name}: ${rangesOf(name, cells, size)}</p>` : '';
-  return `<div class="ring"><svg viewBox="0 0 340 340" role="img"`
+  return `<div class="ring"><svg viewBox="0 6 340 328" role="img"`
     + ` aria-label="${escaped(spoken)}">${out}</svg>${list}</div>`;
 }

@@ -1,6 +1,7 @@
 /* Finds where a run goes wrong, by rules for the races of docs/RACES.md. Each finding is a fact of the log.
  *
- * A finding has the index of its step, its kind, its text, and a heading in docs/RACES.md, if there is one. The kinds
+ * A finding has the index of its step, its kind, its text, and a heading in docs/RACES.md, if there is one. `more` has
+ * what other steps have to do with it: the index of each, and a text. `rest` is what is said of it besides. The kinds
  * of mistakes without a consequence yet differ from those of consequences: reasons() needs this.
  */
 const SECTIONS = {
@@ -22,8 +23,29 @@ const SECTIONS = {
   beforeThere: 'A word is read before it is there',
   cutsIn: 'The handler cuts in on a send',
 };
+/* The rule of each section, in the words of docs/RACES.md */
+const RULES = {
+  [SECTIONS.handlerRuns]: 'Read ICR first, then take frames until no frame ends in finished slots',
+  [SECTIONS.twoLoads]: 'Load DD and the length in one access',
+  [SECTIONS.headPassed]: "Only DD in memory shows that a slot is finished; RDH doesn't",
+  [SECTIONS.spans]: 'Only EOP shows that a frame is complete; take all slots of a frame, or no slot',
+  [SECTIONS.beforeStored]: 'Store the descriptors first, then write RDT',
+  [SECTIONS.doneBefore]: 'Store a complete descriptor, with DD clear and length 0, for each slot that you offer',
+  [SECTIONS.looksEmpty]: 'Never offer all slots of a ring',
+  [SECTIONS.stillRead]: 'Each buffer has one owner: the ring, the pool or a receiver',
+  [SECTIONS.allHeld]: 'Refill the ring also in the call that takes a buffer back',
+  [SECTIONS.missed]: 'Read MPC only once in each call to the handler, because a read clears MPC',
+  [SECTIONS.cleared]: 'write a word of MTA once, with the bits of all joined groups in it',
+  [SECTIONS.lostMiss]: 'Write 0 to RCTL, then read MPC, and then reset',
+  [SECTIONS.wakes]: 'Never write an unmasked cause to ICS in the handler',
+  [SECTIONS.takenBefore]: 'Store the data first, then the descriptor, then write TDT',
+  [SECTIONS.notSent]: "Only DD in memory shows that a frame was sent; TDH doesn't",
+  [SECTIONS.beforeThere]: 'Use a word from EERD only if DONE is set',
+  [SECTIONS.cutsIn]: 'Keep the handler out of the call that sends a frame',
+};
 const UNSTORED = { rx: SECTIONS.beforeStored, tx: SECTIONS.takenBefore };
-const QUIET = 'quiet';
+const BIT_EN = 2;  // of RCTL
+const QUIET = 'quiet', CUTS_IN = 'the handler cuts in';
 const whoOf = step => step.actor === HANDLER ? 'handler' : 'driver';
 const whoStored = slot => slot.storedBy === HANDLER ? 'handler' : 'driver';
 
@@ -49,6 +71,9 @@ class Watch {
   full = new Map();  // by rings: a write of the tail that a later one would refute
   dry = null;  // the step after which no receive slot is offered
   masked = new Map();  // causes that were masked again: the step
+  blind = new Map();  // by slots, such as rx[1]: the last load of the status without DD, since the slot was offered
+  fills = [];  // stores into buffers of frames that the adapter has fetched
+  cutIn = null;  // the step in which the handler has cut in
   clears = null;  // the last read of ICR that cleared a cause
   since = new Set();  // the actions of accesses since then
 
@@ -60,8 +85,8 @@ class Watch {
     return this.state.rings.rx;
   }
 
-  find(kind, text, section = '', step = this.at) {
-    this.found.push({ step, kind, text, section });
+  find(kind, text, section = '', step = this.at, more = []) {
+    this.found.push({ step, kind, text, section, more });
   }
 
   /** Applies the rules before a step, plays the step, and applies the rules after it. */
@@ -71,6 +96,8 @@ class Watch {
     else if (step.action === 'rxdata' || step.action === 'txtake') this.beforeUse(step);
     else if (step.action === 'arrive' && step.outcome === 'filtered') this.filtered.push([this.at, state.arrived]);
     if (step.actor === DRIVER && !isAccess(step)) this.freed = null;
+    if (step.action === 'mark' && step.outcome === CUTS_IN) this.cutIn = this.at;
+    if (step.action === 'frame') this.judgeSent(step);
     const tails = { rx: rings.rx.tail, tx: rings.tx.tail }, heads = { rx: rings.rx.head, tx: rings.tx.head };
     const at = this.at;
     state.play(step);
@@ -127,7 +154,8 @@ class Watch {
       this.find('mpc', `The reset clears MPC, which counts ${count} missed frame${count > 1 ? 's' : ''} that the driver`
         + " hasn't read.", SECTIONS.lostMiss);
     for (const one of [this.forgotten, this.masked, this.looks, this.unread, this.kept, this.fetches, this.frames,
-      this.full]) one.clear();
+      this.full, this.blind]) one.clear();
+    this.fills = [];
   }
 
   /** A read of a head, which has passed the slots in progress. */
@@ -138,7 +166,7 @@ class Watch {
         + ` descriptor`
         + " isn't written back yet.", SECTIONS.headPassed);
     else if (name === 'TDH' && sent)
-      this.find('tdh', `The driver reads TDH, which has passed tx[${sent.slot}]. Sent frame ${sent.number} of this slot`
+      this.find('tdh', `The driver reads TDH, which has passed tx[${sent.slot}]. Frame T${sent.number} of this slot`
         + " isn't on the wire yet: it is in the transmit packet buffer.", SECTIONS.notSent);
   }
 
@@ -148,10 +176,7 @@ class Watch {
     if (cleared & BIT.RXT0)
       rx.slots.forEach((slot, at) => {
         if (slot.state === 'f' && state.memory.get(rx.address(at) + STATUS) & EOP)
-          this.forgotten.set(at, { step: this.at, kind: 'late', section: SECTIONS.handlerRuns,
-            text: `The ${step.action} of ICR clears RXT0 of frame ${slot.frame}, which is finished in rx[${at}]. The`
-              + ` driver`
-              + " hasn't loaded this DD, and doesn't load it later." });
+          this.forgotten.set(at, this.lateOf(step, at));
       });
     if (cleared & BIT.RXO)
       this.missed = { step: this.at, kind: 'rxo', section: SECTIONS.missed,
@@ -160,13 +185,32 @@ class Watch {
     if (cleared && step.action === 'read') [this.clears, this.since] = [this.at, new Set()];
   }
 
+  /** What the driver forgets by clearing RXT0, unless it looks at this slot later. */
+  lateOf(step, at) {
+    const { frame } = this.rx.slots[at], look = this.blind.get(`rx[${at}]`), more = [];
+    const by = (this.state.recorded.get('RXT0') || []), own = by.find(one => one.frame === frame);
+    const others = by.filter(one => one.frame !== frame && (!own || one.step < own.step));
+    const text = `The ${step.action} of ICR clears RXT0 of frame R${frame}, which is finished in rx[${at}]`
+      + `${own ? ` since step ${own.step}` : ''}. The driver hasn't loaded this DD, and doesn't load it later.`;
+    let rest = `No interrupt reports R${frame}.`;
+    if (look) {
+      rest += ` The last look at rx[${at}] was in step ${look.step}, too early.`;
+      more.push({ step: look.step, text: `The last look at rx[${at}]: DD is clear.`
+        + `${own ? ` The adapter sets it in step ${own.step}.` : ''}` });
+    }
+    if (others.length)
+      rest += ` RXT0 is one bit: ${others.map(one => `R${one.frame}`).join(', ')} had set it before, in step`
+        + ` ${others[others.length - 1].step}, and this ${step.action} clears it for all of them.`;
+    return { step: this.at, kind: 'late', section: SECTIONS.handlerRuns, text, rest, more };
+  }
+
   /** A write of a word of the receive filter. */
   writeFilter(name, value) {
     const before = this.state.registers[name] || 0, [step, word] = this.cleared.get(name) || [];
     if (word !== undefined && (value & word) >>> 0 === word)
       for (const [at, frame] of this.filtered)
         if (at > step)
-          this.find(name.split('[')[0].toLowerCase(), `Frame ${frame} is filtered between two writes of ${name}: the`
+          this.find(name.split('[')[0].toLowerCase(), `Frame R${frame} is filtered between two writes of ${name}: the`
             + ` first one`
             + ' clears bits, and the second one sets them again.', name[0] === 'M' ? SECTIONS.cleared : '', at);
     this.cleared.delete(name);
@@ -177,6 +221,7 @@ class Watch {
 
   beforeLoad(step, address, size) {
     const ring = this.rx, slots = ring.slotsIn(address, size), bytes = bytesOf(step), { tx } = this.state.rings;
+    for (const one of [ring, tx]) this.noteLook(one, step, address, size, bytes);
     for (const at of tx.slotsIn(address, size))
       if (bytes[tx.address(at) + STATUS - address] & DD) this.loadSent(step, at);
     for (const at of slots) {
@@ -198,6 +243,17 @@ class Watch {
     if (!slots.length) this.loadBuffer(step, address);
   }
 
+  /** Notes loads of a status: those without DD, and who finds DD after one. */
+  noteLook(ring, step, address, size, bytes) {
+    for (const at of ring.slotsIn(address, size)) {
+      const name = `${ring.name}[${at}]`, status = bytes[ring.address(at) + STATUS - address];
+      if (status === undefined) continue;
+      const before = this.blind.get(name);
+      if (!(status & DD)) this.blind.set(name, { name, step: this.at, actor: step.actor, foundBy: null });
+      else if (before && !before.foundBy) before.foundBy = { actor: step.actor, step: this.at };
+    }
+  }
+
   /** A load of DD of a sent frame. The handler may cut in on a send just after it. */
   loadSent(step, at) {
     const { freed } = this;
@@ -215,7 +271,7 @@ class Watch {
     if (step.actor === HANDLER && taker.actor !== HANDLER)
       this.find('taken twice', `The handler loads DD of rx[${at}], and finds it set. The driver has found it set in`
         + ` step`
-        + ` ${taker.step}, and hasn't given the slot back yet. So both take frame ${this.rx.slots[at].frame}.`);
+        + ` ${taker.step}, and hasn't given the slot back yet. So both take frame R${this.rx.slots[at].frame}.`);
   }
 
   findLength(at) {
@@ -240,18 +296,18 @@ class Watch {
     else if (slot.state === 'f' || slot.state === 'F') this.looks.delete(at);
     if (slot.state === 'f') this.early.add(at);
     if (slot.state === 'F' && !this.isWhole(at))
-      this.find('part', `The driver loads the buffer of rx[${at}], which contains only a piece of frame ${slot.frame}.`
+      this.find('part', `The driver loads the buffer of rx[${at}], which contains only a piece of frame R${slot.frame}.`
         + ` It`
         + " hasn't found EOP of this frame.", SECTIONS.spans);
   }
 
   /** A load of a buffer that was offered before the frame in it was loaded. */
   loadKept(slot, at, { frame, offer }) {
-    const text = `The driver loads the buffer ${hex(bufferOf(slot))} of frame ${frame} here, but it has offered this`
+    const text = `The driver loads the buffer ${hex(bufferOf(slot))} of frame R${frame} here, but it has offered this`
       + ` buffer`
       + ` to the adapter again, with rx[${at}] in step ${offer}`;
     if (slot.state === 'o') this.find('kept', `${text}.`, SECTIONS.stillRead);
-    else this.find('overwritten', `${text}. Frame ${slot.frame} is in the buffer now.`, SECTIONS.stillRead);
+    else this.find('overwritten', `${text}. Frame R${slot.frame} is in the buffer now.`, SECTIONS.stillRead);
   }
 
   /** Whether the driver has loaded DD of the slot in which the frame of this slot ends. */
@@ -271,7 +327,7 @@ class Watch {
     this.looks.delete(at);
     if (!look) return;
     if (look.done !== null && look.state === 'o')
-      this.find('look', `The driver loads the buffer of rx[${at}] here, before it loads DD. Frame ${look.frame} is`
+      this.find('look', `The driver loads the buffer of rx[${at}] here, before it loads DD. Frame R${look.frame} is`
         + ` written`
         + ` to the buffer later, in step ${look.used}. In step ${look.done}, the driver finds DD set, and uses what it`
         + ` has`
@@ -293,7 +349,11 @@ class Watch {
     for (const at of rx.slotsIn(address, size)) this.storeReceive(at, address, size);
     const slots = tx.slotsIn(address, size);
     for (const at of slots) this.storeTransmit(at, step, address, size);
-    if (!slots.length && !rx.slotsIn(address, size).length) this.storeFrame(step, address);
+    if (!slots.length && !rx.slotsIn(address, size).length) {
+      const count = this.found.length;
+      this.storeFrame(step, address);
+      if (this.found.length === count) this.storeOwned(step, address, size);
+    }
   }
 
   /** Whether a store replaces a status that the adapter has written back and the driver hasn't loaded. */
@@ -316,7 +376,7 @@ class Watch {
     if (fetch && (slot.state === 'p' || slot.state === 'f')) {
       this.find('rdt', fetch.text, SECTIONS.beforeStored, fetch.step);
       this.find('rdt late', `The driver stores the descriptor of rx[${at}] only now. The adapter has used this slot in`
-        + ` step ${fetch.step} already, for frame ${slot.frame}.`, SECTIONS.beforeStored);
+        + ` step ${fetch.step} already, for frame R${slot.frame}.`, SECTIONS.beforeStored);
     } else if (slot.state === 'p') {
       this.find('head', `The driver stores a new descriptor in rx[${at}], which is in progress: the adapter hasn't`
         + ` written`
@@ -343,6 +403,60 @@ class Watch {
     this.frames.set(address, { actor: step.actor, step: this.at });
   }
 
+  /** A store into a buffer that the adapter owns: its slot is offered, or the adapter has used it, and the driver
+   * hasn't loaded DD.
+   */
+  storeOwned(step, address, size) {
+    const { tx } = this.state.rings, at = this.state.slotOfBuffer(address);
+    const holds = (buffer, room) => buffer && buffer < address + size && address < buffer + Math.max(room || 0, 1);
+    if (tx.slots.some(slot => slot.state === 's' && holds(slot.buffer, 1))) return;
+    tx.slots.forEach((slot, n) => {
+      const room = this.state.number(tx.address(n) + LENGTH, 2), name = `tx[${n}]`;
+      if (slot.state === 'o' && holds(slot.buffer, room))
+        this.find('fill early', `The driver writes the buffer of ${name}, at ${hex(address)}, after it has offered this`
+          + ` slot${slot.offeredAt === null ? '' : ` in step ${slot.offeredAt}`}. From then on, the adapter may fetch`
+          + ' the bytes that were there before.', SECTIONS.takenBefore);
+      else if ('pf'.includes(slot.state) && slot.copy && holds(slot.copy.buffer, slot.copy.size))
+        this.fills.push({ step: this.at, name, copy: slot.copy, address, bytes: bytesOf(step) });
+    });
+    const slot = this.rx.slots[at];
+    if (!slot || !(this.state.registers.RCTL & BIT_EN)) return;
+    if (slot.state === 'o')
+      this.find('rx fill early', `The driver writes the buffer of rx[${at}], which is offered to the adapter.`,
+        SECTIONS.stillRead);
+    else if (slot.state === 'p' || slot.state === 'f' && !this.early.has(at))
+      this.find('rx fill', `The driver writes the buffer of rx[${at}], in which frame R${slot.frame} is, before it has`
+        + ' loaded DD.', SECTIONS.stillRead);
+  }
+
+  /** Where the bytes of a fetched frame differ from those that were stored later, such as `byte 14 is 0x0, not 0x2`. */
+  otherByte({ copy, address, bytes }) {
+    const begin = address - copy.buffer, sent = copy.bytes.slice(Math.max(0, begin));
+    const at = firstOther(sent, bytes.slice(Math.max(0, -begin)));
+    return at < 0 ? '' : `: byte ${at + Math.max(0, begin)} is ${hex(sent[at])}, not`
+      + ` ${hex(bytes[at + Math.max(0, -begin)])}`;
+  }
+
+  /** A frame is on the wire: perhaps with other bytes than the driver has stored. */
+  judgeSent(step) {
+    const one = this.state.put, bytes = firstBytes(step);
+    for (const fill of this.fills) {
+      const other = fill.copy === one ? this.otherByte({ ...fill, copy: { ...one, bytes } }) : '';
+      if (other)
+        this.find('sent before', `T${one.number} is sent with other bytes than the driver has stored in step`
+          + ` ${fill.step}${other}.`, SECTIONS.takenBefore);
+    }
+  }
+
+  judgeFill(fill) {
+    const { copy, name, step } = fill, sent = copy.putAt === null ? '' : `, and sent it in step ${copy.putAt}`;
+    const is = copy.putAt === null ? 'has' : 'is sent with';
+    this.find('fill', `The driver writes the buffer of ${name} here, but the adapter has fetched the frame in step`
+      + ` ${copy.step}${copy.putAt !== null && copy.putAt < step ? sent : ''}. T${copy.number ?? '?'} ${is} the bytes`
+      + ` from before${this.otherByte(fill)}.`, SECTIONS.takenBefore, step,
+    [{ step: copy.step, text: `The adapter copies the frame here, before the driver has stored it in step ${step}.` }]);
+  }
+
   /** Whether the other one of the driver and its handler has stored the descriptor of a transmit slot last. */
   otherSender(at, step) {
     const { storedBy } = this.state.rings.tx.slots[at];
@@ -364,7 +478,7 @@ class Watch {
       this.find('tdt', `The driver stores the descriptor of ${name} after the adapter has fetched it.`,
         SECTIONS.takenBefore);
     else if (slot.state === 'p')
-      this.find('freed', `The driver stores a new descriptor in ${name}, but sent frame ${slot.frame} of this slot is`
+      this.find('freed', `The driver stores a new descriptor in ${name}, but frame T${slot.frame} of this slot is`
         + ` still`
         + ' in the transmit packet buffer.', SECTIONS.notSent);
     else if (isStaged)
@@ -374,6 +488,15 @@ class Watch {
     else if (this.erases(ring, at, address, size)) this.findErased(ring, at);
     for (let byte = Math.max(address, ring.address(at)); byte < Math.min(address + size, ring.address(at) + 16); byte++)
       this.stored.add(byte);
+    this.reuse(step, ring.address(at) - address);
+  }
+
+  /** The driver stores a descriptor with the buffer of a fetched frame: the buffer has the next frame. */
+  reuse(step, begin) {
+    const bytes = bytesOf(step).slice(Math.max(0, begin), Math.max(0, begin) + 8).reverse();
+    const buffer = begin >= 0 && bytes.length === 8 ? bytes.reduce((sum, byte) => 256 * sum + byte, 0) : null;
+    this.fills = this.fills.filter(({ copy }) => buffer !== null
+      && (buffer < copy.buffer || buffer >= copy.buffer + Math.max(1, copy.size || 0)));
   }
 
   // The adapter
@@ -393,7 +516,7 @@ class Watch {
       else if (ring.name === 'rx' && !slot.isStored && ring.isShown)
         this.fetches.set(at, { step: this.at, text: `rxdata uses rx[${at}], which was offered${offer}, but the driver`
           + ` hasn't`
-          + ` stored its descriptor yet: frame ${this.state.waiting[0]?.number} goes to the address that is in memory`
+          + ` stored its descriptor yet: frame R${this.state.waiting[0]?.number} goes to the address that is in memory`
           + ` there.`
         });
     } else if (ring.name === 'rx') {
@@ -416,6 +539,7 @@ class Watch {
   /** After a write of RDT or TDT. `tail` and `head` are those before it. */
   afterTail(ring, tail, head, step) {
     const register = step.name, offered = ring.offered();
+    for (const at of offered) if (ring.slots[at].offeredAt === this.at) this.blind.delete(`${ring.name}[${at}]`);
     this.full.delete(ring.name);
     if (ring.tail === ring.head && ring.size) {
       const one = { step: this.at, kind: 'full', section: SECTIONS.looksEmpty,
@@ -467,6 +591,7 @@ class Watch {
     const { state, rx } = this;
     for (const [at, finding] of this.forgotten) if (rx.slots[at]?.state === 'f') this.found.push(finding);
     for (const at of [...this.looks.keys()]) this.judgeLook(at);
+    this.fills.forEach(fill => this.judgeFill(fill));
     this.found.push(...this.full.values());
     if (this.missed && state.registers.MPC) this.found.push(this.missed);
     for (const [cause, step] of this.masked)
@@ -476,12 +601,27 @@ class Watch {
           + " doesn't assert the line.", '', step);
     if (this.dry !== null)
       this.find('dry', 'From this step on, no receive slot is offered. Waiting in the packet buffer: frame '
-        + `${state.waiting.map(frame => frame.number).join(', ')}.`, SECTIONS.allHeld, this.dry);
-    if (this.clears !== null && this.isQuiet() && !this.since.has('write'))
+        + `${state.waiting.map(frame => `R${frame.number}`).join(', ')}.`, SECTIONS.allHeld, this.dry);
+    if (this.clears !== null && this.isQuiet() && !this.since.has('write')) this.findQuiet();
+  }
+
+  /** All is done, and no interrupt follows: the driver has perhaps decided to wait by a look that was too early. */
+  findQuiet() {
+    const sent = this.state.sent ? ' all sent frames are on the wire, and' : '';
+    const last = { step: this.clears, text: 'This read of ICR clears the last cause of the run.' };
+    const look = [...this.blind.values()].filter(one => one.actor !== HANDLER && one.foundBy?.actor === HANDLER
+      && one.step < this.cutIn && this.cutIn < one.foundBy.step).sort((one, two) => two.step - one.step)[0];
+    if (look)
+      this.found.push({ step: look.step, kind: QUIET, section: '', cutIn: this.cutIn, more: [last],
+        text: `In this look, ${look.name} isn't finished. Before the driver goes on, the handler cuts in (step`
+          + ` ${this.cutIn}), and finds ${look.name} finished (step ${look.foundBy.step}).`,
+        rest: `The handler clears the last cause of the run (step ${this.clears}). The adapter has nothing left to do:`
+          + `${sent} no interrupt follows. If the driver stops its queue because of this look, nothing wakes it: after`
+          + ' stopping, it must check again for room.' });
+    else
       this.find(QUIET, 'This read of ICR clears the last cause of the run, and the adapter has nothing left to do:'
-        + `${state.sent ? ' all sent frames are on the wire, and' : ''} no interrupt follows. A driver that waits for`
-        + ` one`
-        + ' from here on must first look for finished slots once more.', '', this.clears);
+        + `${sent} no interrupt follows. A driver that waits for one from here on must first look for finished slots`
+        + ' once more.', '', this.clears);
   }
 
   /** Whether the adapter has nothing to do, and the line isn't asserted. */

@@ -9,6 +9,7 @@ class Slot {
   storedBy = '';  // the actor that has stored it last
   storedAt = null;  // the step of this store
   offeredAt = null;  // the step of the write of the tail that has offered it
+  copy = null;  // the frame that the adapter has fetched from a transmit slot
 }
 
 /** The address of the buffer in which a slot's frame is, or will be; 0 if the log doesn't show it. */

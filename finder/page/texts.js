@@ -1,6 +1,7 @@
 /* The text of each step on the page. */
-const EFFECTS = { rxdata: 'the buffer of {} is written', rxdone: '{} is written back', txtake: '{} is fetched',
-  txput: 'the frame of {} is put on the wire' };
+// Calls of the test. All other requests are calls of the driver.
+const OF_TEST = /^(settle|step|line|offer|choose|clock_step|clock_set|arrive)\b/;
+const FEW = 8;  // digits of a frame's first bytes
 const SHORT = 24;  // the most digits of a value in memory that is shown completely
 
 /** A register's value, and the names of bits that are set in it, such as `0x80 RXT0`. */
@@ -43,13 +44,15 @@ function memoryOf({ name, size = 0, data }) {
   return fields ? `${name} ${fields}` : `${name}, ${size} bytes: ${shortHex(data)}`;
 }
 
-/** The size and the last bytes of a frame, as far as the log has them. */
+/** The size, the first and the last bytes of a frame, as far as the log has them. */
 function frameText({ size, data }) {
-  return size ? ` ${size} bytes${data ? `, ..${data.slice(-4)}` : ''}` : '';
+  if (!size || !data) return size ? ` ${size} bytes` : '';
+  const begin = data.length > 4 ? data.slice(0, FEW) : '';
+  return ` ${size} bytes, ${data.length <= SHORT && data.length === 2 * size ? data : `${begin}..${data.slice(-4)}`}`;
 }
 
-/** The text of a step. `slot` is what a step of the adapter uses, and `frame` the frame's name, if they are known. */
-function textOf(step, slot = '', frame = '') {
+/** The text of a step. `told` is what a step of the adapter has done, and `frame` the frame's name, if known. */
+function textOf(step, told = '', frame = '') {
   const { action, name = '', outcome = '', value } = step;
   if (step.text !== undefined) return step.text;
   if (isAccess(step)) {
@@ -59,30 +62,40 @@ function textOf(step, slot = '', frame = '') {
   if (action === 'arrive') return `${frame || 'a frame'} arrives:${frameText(step)} ${outcome}`;
   if (action === 'frame') return `${frame || 'a frame'} is on the wire:${frameText(step)}`;
   if (action === 'raise' || action === 'lower') return `${action}s the interrupt line`;
-  if (action === 'mark' || action === 'request') return outcome;
-  if (action === 'choose') return `choose ${outcome}: ${value}`;
+  if (action === 'mark' || action === 'request') return OF_TEST.test(outcome) ? `test: ${outcome}` : outcome;
+  if (action === 'choose') return `test: choose ${outcome}: ${value}`;
   if (action === 'hold') return `the step of ${outcome} is left out`;
   if (action === 'fault') return `fault ${name} ${outcome}`;
-  if (!EFFECTS[action] || !slot) return `${action} ${outcome}`;
-  return `${action} ${outcome}: ${EFFECTS[action].replace('{}', slot)}${frame ? `, ${frame}` : ''}`;
+  return `${action} ${outcome}${told ? `: ${told}` : ''}`;
 }
 
-/** A run as the page shows it: the text of each step, the cells that it changes, and whether the line is asserted after
- * it. The steps of a scenario have texts and changes of their own.
+/** A run as the page shows it: the text of each step, the cells that it changes, the bytes that it moves, and whether
+ * the line is asserted after it. The steps of a scenario have texts and changes of their own.
  */
 function shownOf(run) {
-  const state = new State(), found = { texts: [], changes: [], lines: [] };
+  const state = new State(), found = { texts: [], changes: [], bytes: [], lines: [] };
   let sent = '';
-  for (const step of run.steps) {
+  run.steps.forEach((step, at) => {
     const changes = step.changes || state.play(step), cells = Object.keys(changes);
-    const frame = step.action === 'frame' ? sent : isAccess(step) ? '' : cells.find(cell => cell.includes('frame'
-      + ' ')) || '';
+    const own = isAccess(step) ? '' : cells.find(cell => cell.startsWith('frame ')) || '';
+    const frame = step.action === 'frame' ? sent : own;
     if (step.action === 'txput') sent = frame;
-    found.texts.push(textOf(step, step.name || cells.find(cell => SLOT.test(cell)), frame));
+    found.texts.push(textOf(step, state.told || step.name, frame.replace('frame ', '')));
     found.changes.push(changes);
+    found.bytes.push(state.bytes.filter(([, bytes]) => bytes.length));
     found.lines.push(state.line);
-  }
+    if (/^(raise|lower)$/.test(step.action) && at) moveLine(run.steps, found, at);
+  });
   return found;
+}
+
+/** The line is raised or lowered by the step before: the state after that step has the line, too. */
+function moveLine(steps, found, at) {
+  let to = at - 1;
+  for (; to > 0 && steps[to].action === 'frame'; to--) found.lines[to] = found.lines[at];
+  found.lines[to] = found.lines[at];
+  found.changes[to] = { ...found.changes[to], ...found.changes[at] };
+  found.changes[at] = {};
 }
 
 /** The actors of some runs: the driver (or others, such as its processors), its handler, the adapter, the wire. */
@@ -96,7 +109,8 @@ function lanesOf(runs) {
 /** The text of the first difference in what the driver saw. */
 function firstText(found, mine, others) {
   if (found.step === null)
-    return `The driver sees the same in both runs. Without deviations, it continues: ${others.texts[found.other]}.`;
+    return 'Up to here, driver and test have seen the same as without deviations. There, the next step is:'
+      + ` ${others.texts[found.other]}.`;
   const its = found.other === null ? 'the run has ended before' : others.texts[found.other];
-  return `The first difference in what the driver sees: ${mine.texts[found.step]}. Without deviations: ${its}.`;
+  return `The first difference in what driver and test see: ${mine.texts[found.step]}. Without deviations: ${its}.`;
 }

@@ -9,14 +9,14 @@ from functools import lru_cache
 from html import escape
 from typing import Any, Dict, Sequence, Tuple
 
-from finder.log import FORMAT, VERSION, RunLog, Step, text_of
+from finder.log import FORMAT, VERSION, RunLog, Step, short_text_of
 from finder.names import BITS, CAUSES, FIELD_BITS, FIELDS
 from finder.page import from_scenario
 
 FOLDER = os.path.dirname(os.path.abspath(__file__))
 # What finds the state, the texts, and the reasons of a log, without a page; and what shows them
-LOGIC = "model.js", "slots.js", "texts.js", "rules.js", "reasons.js", "compare.js"
-SCRIPTS = (*LOGIC, "page.js", "rings.js", "keys.js")
+LOGIC = "model.js", "log.js", "slots.js", "texts.js", "rules.js", "reasons.js", "compare.js"
+SCRIPTS = (*LOGIC, "page.js", "head.js", "list.js", "rings.js", "keys.js")
 MOST_BYTES, MOST_ZEROS, LAST_BYTES = 64, 4096, 2
 TRAILING = re.compile(r"  // [^\n]*")
 BLOCK = re.compile(r"^ */\*.*?\*/\n", re.M | re.S)
@@ -57,12 +57,13 @@ def page_of(title: str, log: str) -> str:
 
 
 def short(step: Step) -> Step:
-    """A step with fewer bytes, because the page shows few: of a long access, the first ones, and of a frame, the last
-    ones. An access whose bytes are all 0, such as the store of an empty ring, keeps more.
+    """A step with fewer bytes, because the page shows few. A long access has the first ones, and a long frame the first
+    and the last ones. An access whose bytes are all 0, such as the store of an empty ring, keeps more.
     """
     data = step.data
     if data and step.action in ("arrive", "frame"):
-        return step._replace(data=data[-LAST_BYTES:])
+        is_cut = len(data) > MOST_BYTES
+        return step._replace(data=data[:MOST_BYTES - LAST_BYTES] + data[-LAST_BYTES:]) if is_cut else step
     is_long = data is not None and len(data) > MOST_BYTES and (any(data) or len(data) > MOST_ZEROS)
     return step._replace(data=data[:MOST_BYTES]) if data and is_long else step
 
@@ -76,7 +77,7 @@ def page(runs: Sequence[RunLog]) -> str:
     """The page of a run, which is the first one; and of the run without deviations to compare it with, if there is
     one.
     """
-    return page_of(f"{runs[0].command}: {runs[0].fault or 'passes'}", text_of([*map(shortened, runs)]))
+    return page_of(f"{runs[0].command}: {runs[0].fault or 'passes'}", short_text_of([*map(shortened, runs)]))
 
 
 def plain_of(one: from_scenario.Shown) -> Dict[str, Any]:

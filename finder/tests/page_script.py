@@ -27,10 +27,11 @@ function played(run) {
   return { cells: state.cells, wrong: state.wrong, changes };
 }
 const lanes = run => lanesOf([run]);
-const constants = () => ({ slots: SLOTS, quiet: QUIET, sections: SECTIONS, mostCells: MOST_CELLS, piece: PIECE });
+const constants = () => ({ slots: SLOTS, quiet: QUIET, sections: SECTIONS, rules: RULES, mostCells: MOST_CELLS,
+  piece: PIECE });
 """
-FUNCTIONS = ("states", "played", "constants", "findings", "reasons", "difference", "align", "alignSteps", "shownOf",
-             "lanes")
+FUNCTIONS = ("runsIn", "states", "played", "constants", "findings", "reasons", "difference", "align", "alignSteps",
+             "shownOf", "lanes")
 TABLE = f"const CALLS = {{ {', '.join(FUNCTIONS)} }};\n"
 LOOP = """
 require('readline').createInterface({ input: process.stdin }).on('line', line => {

@@ -96,12 +96,12 @@ def frames(server):
     cells = {cell: text for cell, text in logic().call("played", run)["cells"].items() if "frame " in cell}
     came = [step for step in run.steps if step.action == "arrive"]
     put = [step for step in run.steps if step.action == "frame"]
-    names = [f"frame {at}" for at in range(len(came))] + [f"sent frame {at}" for at in range(len(put))]
+    names = [f"frame R{at}" for at in range(len(came))] + [f"frame T{at}" for at in range(len(put))]
     server.check("frames: all have a place", sorted(cells), sorted(names))
-    ends = {(name.split(" ")[0], text.partition(": ")[2]) for name, text in cells.items()}
+    ends = {(name[:len("frame R")], text.partition(": ")[2]) for name, text in cells.items()}
     loaded = "the driver has loaded DD"
     server.check("frames: where they are at the end", sorted(ends),
-                 [("frame", loaded), ("sent", "on the wire"), ("sent", loaded)])
+                 [("frame R", loaded), ("frame T", "on the wire"), ("frame T", loaded)])
 
 
 def rules(server):
@@ -125,8 +125,8 @@ def rules(server):
     run, other = logs_of(server, [*QUEUE, "txstop"], TXSTOP)
     lanes_of_run = list(dict.fromkeys(step.actor for step in run.steps if step.is_access()))
     server.check("rules: txstop, the handler has a lane", lanes_of_run, ["driver", "handler"])
-    server.check("rules: txstop", [(one["kind"], one["isHint"], run.steps[one["step"]][1:4])
-                                   for one in logic().reasons(run, other)], [("quiet", True, ("read", "6.24", "ICR"))])
+    told = [(one["kind"], one["isHint"], run.steps[one["step"]][1:4]) for one in logic().reasons(run, other)]
+    server.check("rules: txstop", told, [("quiet", True, ("read", "6.14", "tx[0]+12"))])
 
 
 def pairs(server):

@@ -84,19 +84,19 @@ def late(server, browser, address, run, other):
     server.check("late: no trouble", browser.troubles(), [])
     icr = next(at for at, step in enumerate(run.steps) if step.place == "4.6")
     server.check("late: it begins where it goes wrong", browser.value(STEP), f"Step {icr}")
-    server.check("late: rows", browser.value("document.querySelectorAll('#steps > li:not(.gap)').length"),
+    server.check("late: rows", browser.value("document.querySelectorAll('#steps > li[id]').length"),
                  len(run.steps))
     why = browser.value("document.querySelector('header .why').textContent")
-    server.check("late: the reason", [text in why for text in ("RXT0 of frame 1", "while the handler runs")],
+    server.check("late: the reason", [text in why for text in ("RXT0 of frame R1", "while the handler runs")],
                  [True, True])
     server.check("late: the numbers of rows", browser.value(f"{NOW}.step"), icr)
     ring = browser.value("document.querySelector('svg').getAttribute('aria-label')")
-    server.check("late: the ring", ("rx[1]: finished, frame 1." in ring, "rx[2]: offered, RDH." in ring), (True, True))
+    server.check("late: the ring", ("rx[1]: finished, R1." in ring, "rx[2]: offered, RDH." in ring), (True, True))
     server.check("late: the descriptor",
                  browser.value("[...document.querySelectorAll('#state h2')].map(one => one.textContent)"),
                  ["Registers", "Packet buffers", "Descriptor rx[1], finished"])
     owners = browser.value("[...document.querySelectorAll('#buffers tr')].map(one => one.textContent)")
-    server.check("late: buffers", [text in owners for text in ("0x10100the driver: rx[1], finished, frame 1",
+    server.check("late: buffers", [text in owners for text in ("0x10100the driver: rx[1], finished, R1",
                                                              "0x10200the adapter: rx[2], offered")], [True, True])
     server.check("late: what changed", browser.value("document.querySelector('tr.changed').textContent"), "ICR0x0")
     picture(browser, "late")
@@ -109,8 +109,8 @@ def late(server, browser, address, run, other):
                      (f"Step {wanted}", f"#{wanted}"))
     browser.click("#back")
     server.check("late: the button back", browser.value(STEP), f"Step {icr - 1}")
-    browser.value(f"document.querySelectorAll('#steps > li')[{icr - 3}].scrollIntoView()")
-    browser.click(f"#steps > li:nth-child({icr - 2}) b")
+    browser.value(f"document.getElementById('{icr - 3}').scrollIntoView()")
+    browser.click(f"[id='{icr - 3}'] b")
     server.check("late: a click on a row", browser.value(STEP), f"Step {icr - 3}")
     browser.value("location.hash = '#57'")
     browser.value("new Promise(done => setTimeout(done, 50))")
@@ -153,7 +153,7 @@ def finds(server, browser, address, run):
                   "document.getElementById('number').dispatchEvent(new Event('change'))")
     browser.press("ArrowRight")
     server.check("number: arrows step after it", browser.value(STEP), "Step 6")
-    browser.value("const list = document.getElementById('frame'); list.value = 'frame 1';"
+    browser.value("const list = document.getElementById('frame'); list.value = 'frame R1';"
                   "list.dispatchEvent(new Event('change'))")
     steps = browser.value("[...document.querySelectorAll('#trail a')].map(one => +one.textContent.slice(1))")
     wanted = [at for at, step in enumerate(run.steps) if step.action in ("arrive", "rxdata", "rxdone")][3:6]
@@ -178,8 +178,9 @@ def compares(server, browser, address, run, other):
     first = browser.value("document.querySelector('li.differs').step")
     server.check("compare: rows differ only from the first difference on", [at for at in differs if at < first], [])
     picture(browser, "txstop-compare")
+    browser.press("End")
     owners = browser.value("[...document.querySelectorAll('#buffers tr')].map(one => one.textContent)")
-    sent = "0x20000the driver: tx[0], finished, and the driver has loaded DD, sent frame 0"
+    sent = "0x20000the driver: tx[0], finished, and the driver has loaded DD, T0"
     server.check("compare: buffers of sent frames", (sent in owners, len(owners)), (True, 8 + 3))
     browser.press("Home")
     browser.press("o", "o")
@@ -233,7 +234,7 @@ def hostile(server, browser):
     run = RunLog(bad, (bad,), bad, (Step("driver", "mark", outcome=bad), Step(bad, "read", bad, bad, 4, 1),
                                     Step("adapter", bad, bad, bad)))
     browser.open(stored("hostile", page([run, run._replace(fault=None)])))
-    browser.value("compare(true); find('img'); trail('frame 1')")
+    browser.value("compare(true); find('img'); trail('frame R1')")
     server.check("hostile: no trouble", (browser.value("window.bad"), browser.value("document.images.length"),
                                          browser.troubles()), (None, 0, []))
     server.check("hostile: its title", browser.value("document.title"), f"{bad}: {bad}")
@@ -274,8 +275,8 @@ def large(server, browser):
         server.check(f"ring of {size}: labels",
                      (browser.value(OVER), len(numbers) >= 6, "RDH" in labels, "RDT" in labels), ([], True, True, True))
         ranges = browser.value("document.querySelector('.ranges').textContent")
-        server.check(f"ring of {size}: its slots", ranges, "rx: 0 finished, frame 0; 1 finished, frame 1; 2 finished, "
-                     f"frame 2; 3 to {size - 2} offered; {size - 1} the driver's")
+        server.check(f"ring of {size}: its slots", ranges, "rx: 0 finished, R0; 1 finished, R1; 2 finished, "
+                     f"R2; 3 to {size - 2} offered; {size - 1} the driver's")
         picture(browser, f"ring-{size}")
     browser.open(f"file://{os.path.join(FOLDER, 'large.html')}")
     server.check("large: slots", (browser.value("document.querySelectorAll('circle').length"), browser.troubles()),
@@ -292,9 +293,9 @@ def owners(server, browser):
     adapter, later = "not in the logthe adapter: rx[1], ", "0x10800the driver: in the descriptor of rx[1], but the "
     fetched = f"{later}adapter has fetched what was there before"
     for step, wanted in [(5, [f"{adapter}offered; and the adapter: rx[2], offered"]),
-                         (8, [f"{adapter}in progress, frame 0; and the adapter: rx[2], offered"]),
-                         (9, [fetched, f"{adapter}in progress, frame 0; and the adapter: rx[2], offered"]),
-                         (10, [fetched, "not in the logthe driver: rx[1], finished, frame 0; and the adapter: rx[2], "
+                         (8, [f"{adapter}in progress, R0; and the adapter: rx[2], offered"]),
+                         (9, [fetched, f"{adapter}in progress, R0; and the adapter: rx[2], offered"]),
+                         (10, [fetched, "not in the logthe driver: rx[1], finished, R0; and the adapter: rx[2], "
                                "offered"])]:
         browser.value(f"show({step})")
         server.check(f"owners: step {step}", browser.value(read), ["0x10000the driver: rx[0], staged", *wanted])

@@ -12,6 +12,7 @@
 #include <sys/wait.h>
 #include <unistd.h>
 
+#define STEP "{\"a" /* begins the line of a step: its actor, or its action */
 #define NO_PAGE (~0u) /* in place of the number of deviations. Other processes have the pipe, so it has no end */
 /* A deviation on its way to another process. The text of a place in a schedule from a file is in the memory of one. */
 struct sent {
@@ -37,15 +38,52 @@ static void print_text(FILE *file, const char *text)
     }
 }
 
-/* Copies a log. No element of HTML can begin or end in it. */
-static void copy(FILE *from, FILE *to)
+/* Copies a log to its end, or to the end of its line, without the spaces outside of texts. No element of HTML can begin or
+ * end in it. */
+static void copy(FILE *from, FILE *to, bool is_line)
 {
-    int byte;
+    bool is_text = false, is_escaped = false;
 
-    rewind(from);
-    while ((byte = getc(from)) != EOF)
-        fprintf(to, byte == '<' ? "\\u003c" : "%c", byte);
-    fclose(from);
+    for (int byte = 0; !(is_line && byte == '\n') && (byte = getc(from)) != EOF;) {
+        if (byte != ' ' || is_text)
+            fprintf(to, byte == '<' ? "\\u003c" : "%c", byte);
+        if (byte == '"' && !is_escaped)
+            is_text = !is_text;
+        is_escaped = is_text && byte == '\\' && !is_escaped;
+    }
+}
+
+/* Reads the steps with which two logs begin alike. Returns their number. */
+static unsigned same_steps(FILE *one, FILE *two)
+{
+    char *lines[2] = { NULL };
+    size_t sizes[2] = { 0 };
+    unsigned count = 0;
+    long end;
+
+    for (;; count++) {
+        end = ftell(two);
+        if (getline(&lines[0], &sizes[0], one) < 0 || getline(&lines[1], &sizes[1], two) < 0
+            || strcmp(lines[0], lines[1]) || strncmp(lines[0], STEP, strlen(STEP)))
+            break;
+    }
+    fseek(two, end, SEEK_SET);
+    free(lines[0]), free(lines[1]);
+    return count;
+}
+
+/* Copies the log of a second run: the steps with which both begin are there already. */
+static void copy_second(FILE *one, FILE *two, FILE *to)
+{
+    unsigned same;
+
+    rewind(one), rewind(two);
+    while (getc(one) != '\n' && !feof(one))
+        ;
+    copy(two, to, true);
+    if ((same = same_steps(one, two)))
+        fprintf(to, "{\"same\":%u}\n", same);
+    copy(two, to, false), fclose(two);
 }
 
 /* Plays a run. Returns its outcome, and a file with its log. */
@@ -79,10 +117,10 @@ static bool is_stored(const struct deviation *path, unsigned count)
         return false;
     fputs(xi_page_head, page), print_text(page, xi_command), fputs(": ", page);
     print_text(page, outcome.fails ? outcome.fault : "passes"), fputs(xi_page_middle, page);
-    copy(files[0], page);
+    rewind(files[0]), copy(files[0], page, false);
     if (count)
-        play(NULL, 0, &files[1]), copy(files[1], page);
-    fputs(xi_page_end, page);
+        play(NULL, 0, &files[1]), copy_second(files[0], files[1], page);
+    fclose(files[0]), fputs(xi_page_end, page);
     return !(ferror(page) | fclose(page));
 }
 

@@ -22,9 +22,25 @@ static const char *actor(void)
     return is_handlers ? "handler" : "driver";
 }
 
+/* The actor of a step that names none */
+static const char *told_by(const char *action, size_t size)
+{
+    static const char *const actions[] = { "rxdata", "rxdone", "txtake", "txput", "eeprom", "phy", "raise", "lower", "hold",
+                                           "fault", "arrive", "frame" };
+    enum { COUNT = sizeof actions / sizeof *actions, OF_WIRE = COUNT - 2 };
+
+    for (size_t n = 0; n < COUNT; n++)
+        if (strlen(actions[n]) == size && !memcmp(actions[n], action, size))
+            return n < OF_WIRE ? "adapter" : "wire";
+    return "driver";
+}
+
 static void begin(const char *who, const char *action, size_t size)
 {
-    fprintf(xi_steps, "{\"actor\": \"%s\", \"action\": \"%.*s\"", who, (int)size, action);
+    fputc('{', xi_steps);
+    if (!xi_steps_are_short || strcmp(who, told_by(action, size)))
+        fprintf(xi_steps, "\"actor\": \"%s\", ", who);
+    fprintf(xi_steps, "\"action\": \"%.*s\"", (int)size, action);
 }
 
 static void begin_whole(const char *who, const char *action)
@@ -38,11 +54,15 @@ static void print_place(void)
     fprintf(xi_steps, xi_book->sub ? "+%u\"" : "\"", xi_book->sub);
 }
 
-static void print_data(const uint8_t *bytes, size_t count)
+static void print_bytes(const uint8_t *bytes, size_t count)
 {
-    fprintf(xi_steps, ", \"data\": \"");
     for (size_t n = 0; n < count; n++)
         fprintf(xi_steps, "%02x", bytes[n]);
+}
+
+static void print_data(const uint8_t *bytes, size_t count)
+{
+    fprintf(xi_steps, ", \"data\": \""), print_bytes(bytes, count);
     fputc('"', xi_steps);
 }
 
@@ -76,14 +96,15 @@ static void begin_access(void)
     fprintf(xi_steps, ", \"name\": \"%s\"", space + 1);
 }
 
-/* Adds the size of the last one of some frames, and its bytes. */
+/* Adds the size of the last one of some frames, and its bytes. Of a long one, a page has the first and the last bytes. */
 static void print_frame(const struct frames *all)
 {
     uint32_t from = all->begin[all->count - 1], to = all->begin[all->count], size = to - from;
-    uint32_t shown = xi_steps_are_short && size > LAST_BYTES ? LAST_BYTES : size;
+    uint32_t cut = xi_steps_are_short && size > FIRST_BYTES ? LAST_BYTES : 0, first = cut ? FIRST_BYTES - cut : size;
 
-    fprintf(xi_steps, ", \"size\": %u", size);
-    print_data(all->bytes + to - shown, shown);
+    fprintf(xi_steps, ", \"size\": %u, \"data\": \"", size);
+    print_bytes(all->bytes + from, first), print_bytes(all->bytes + to - cut, cut);
+    fputc('"', xi_steps);
 }
 
 /* How many bytes of an access are told: for a page the first ones, but of zeros, as of an empty ring, more */
@@ -103,7 +124,7 @@ void xi_step_value(uint32_t value)
 {
     if (xi_book->event != CHOOSE) {
         begin_access();
-        fprintf(xi_steps, ", \"size\": 4, \"value\": %u", value);
+        fprintf(xi_steps, xi_steps_are_short ? ", \"value\": %u" : ", \"size\": 4, \"value\": %u", value);
         end(NULL, false), add_line();
         return;
     }
