@@ -10,7 +10,7 @@ import time
 from harness import TOP, text_of
 
 # The scripts of the parts of `./test --quick`, in the order of the parts
-PARTS = ["build", "run", "serve", "library.py", "explore.py", "amalgamation", "release", "readme_code", "python_code",
+PARTS = ["build", "library.py", "run", "serve", "explore.py", "amalgamation", "release", "readme_code", "python_code",
          "pages", "twin_clauses"]
 # A part: it stores its words, and prints a file, if there is one for it. With another file it never ends.
 PART = """#!/bin/sh
