@@ -483,7 +483,7 @@ def make(folder):
 
 PARTS = (counts, searching, passes, calls, kept, builds, lies, hooks, untold, schedules, endless, enumerated, bugs,
          all_that_fail, by_priorities, races, commands, languages, jobs, shrinks, resets, ended_commands,
-         stopped_commands, refused_words, drawn, logs, arguments, left_behind, results, pages, pointers, devices, actors,
-         rust, lab, course, every)
+         stopped_commands, refused_words, drawn, logs, arguments, left_behind, results, pages, pointers, devices,
+         actors, rust, lab, course, every)
 
 test_all(make, PARTS)
