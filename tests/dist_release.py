@@ -58,6 +58,9 @@ def builds(checks, name, crate, folder):
     for kind, (words, runner) in COMPILERS.items():
         if not checks.has(words, f"{name}: {kind}") or not checks.has(runner, f"{name}: {kind}"):
             continue
+        if "aarch64" in kind and not os.path.exists("/usr/aarch64-linux-gnu/include/stdio.h"):
+            not_run(f"{name}: {kind}", "there is no C library for it (on Debian: libc6-dev-arm64-cross)")
+            continue
         if "aarch64" in kind and not os.path.exists(os.path.join(folder, f"{crate}-aarch64.S")):
             not_run(f"{name}: {kind}", "there is no code for it")
             continue

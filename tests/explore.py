@@ -259,6 +259,12 @@ def all_that_fail(bench):
     bench.check("all: seeds", (len(seeds), count > 10), (count, True))
 
 
+def ends(got):
+    """The status, the last line, without blanks at its ends, and the errors of a run whose chart is drawn"""
+    status, out, errors = got
+    return status, out.splitlines()[-1].strip() if out else "", errors
+
+
 def races(bench):
     """With --pipe, tools/races plays tests of the explorer: `late` fails with the same schedule. The right driver
     passes.
@@ -266,10 +272,10 @@ def races(bench):
     schedule, env = bench.source("late.txt", "4.6 rxdone before read ICR\n"), {"RACES_LIBRARY": bench.library}
     finder = [os.path.join(TOP, "tools", "races"), "--replay"]
     got = bench.run(*finder, schedule, "--", bench.stages, "late", "--pipe", env=env)
-    bench.check("races: late", got, (FOUND, "exit status 1: frame 1 was never received\n", ""))
+    bench.check("races: late", ends(got), (FOUND, "exit status 1: frame 1 was never received", ""))
     for name in ("right", "cuts:right", "offers:right"):
         got = bench.run(*finder, "/dev/null", "--", bench.stages, name, "--pipe", env=env)
-        bench.check(f"races: {name}", got, (PASSES, "The test passes.\n", ""))
+        bench.check(f"races: {name}", ends(got), (PASSES, "The test passes.", ""))
 
 
 def drawn(bench):

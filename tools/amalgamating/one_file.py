@@ -114,6 +114,22 @@ def always(text):
     return re.split(r"^#if", text, 1, flags=re.M)[0]
 
 
+def in_order(headers):
+    """The headers by their names, each after those that it includes."""
+    order = []
+
+    def add(name):
+        for other in OWN.findall(headers[name]):
+            if other in headers:
+                add(other)
+        if name not in order:
+            order.append(name)
+
+    for name in headers:
+        add(name)
+    return order
+
+
 def strip(text):
     """A text without what it always includes."""
     head = always(text)
@@ -132,7 +148,7 @@ def one_file(folder, names, public, about):
     own = {name: Names(text) for name, text in texts.items()}
     parts = [f"/* {about} */", "#define _GNU_SOURCE", "\n".join(f'#include "{name}"' for name in public),
              "\n".join(f"#include {name}" for name in known)]
-    parts += [f"/* ==== {name} ==== */\n\n{strip(text)}" for name, text in headers.items()]
+    parts += [f"/* ==== {name} ==== */\n\n{strip(headers[name])}" for name in in_order(headers)]
     for name, text in texts.items():
         maps = []
         for kind in ("ordinary", "tags"):

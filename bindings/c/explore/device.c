@@ -64,12 +64,6 @@ void xi_know_device(void)
     xi_know_actions();
 }
 
-struct tried {
-    bool ok;
-    void *block;
-};
-struct tried rattle_alloc(size_t size, size_t align);
-
 /* Begins a run with the device as after power on, and memory of zeros. */
 void xi_start_device(void)
 {

@@ -184,7 +184,12 @@ void xi_know_thread(void);
 bool xi_is_elsewhere(int number);
 void xi_on(int number, void (*handler)(int, siginfo_t *, void *), int flags);
 
-/* states.c: the arena, saved states and digests */
+/* states.c: the arena, saved states and digests; the library's heap */
+struct tried {
+    bool ok;
+    void *block;
+};
+struct tried rattle_alloc(size_t size, size_t align);
 _Noreturn void xi_fail(const char *fault);
 void xi_prepare(bool may_save);
 void xi_clear(void);

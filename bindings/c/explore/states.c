@@ -112,11 +112,6 @@ int xi_pages(void)
 
 /* The heap of the library. The heap only grows, except that the newest block can be freed. */
 
-struct tried {
-    bool ok;
-    void *block;
-};
-
 /* A block of at least a page begins a page, and no other block is in its pages. A test that makes another adapter is
  * refused: no digest has the memory of that one. */
 struct tried rattle_alloc(size_t size, size_t align)
