@@ -259,7 +259,7 @@ def all_that_fail(bench):
     bench.check("all: seeds", (len(seeds), count > 10), (count, True))
 
 
-def ends(got):
+def without_chart(got):
     """The status, the last line, without blanks at its ends, and the errors of a run whose chart is drawn"""
     status, out, errors = got
     return status, out.splitlines()[-1].strip() if out else "", errors
@@ -272,10 +272,10 @@ def races(bench):
     schedule, env = bench.source("late.txt", "4.6 rxdone before read ICR\n"), {"RACES_LIBRARY": bench.library}
     finder = [os.path.join(TOP, "tools", "races"), "--replay"]
     got = bench.run(*finder, schedule, "--", bench.stages, "late", "--pipe", env=env)
-    bench.check("races: late", ends(got), (FOUND, "exit status 1: frame 1 was never received", ""))
+    bench.check("races: late", without_chart(got), (FOUND, "exit status 1: frame 1 was never received", ""))
     for name in ("right", "cuts:right", "offers:right"):
         got = bench.run(*finder, "/dev/null", "--", bench.stages, name, "--pipe", env=env)
-        bench.check(f"races: {name}", ends(got), (PASSES, "The test passes.", ""))
+        bench.check(f"races: {name}", without_chart(got), (PASSES, "The test passes.", ""))
 
 
 def drawn(bench):
