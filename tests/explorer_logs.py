@@ -170,7 +170,7 @@ BAD = [("", "it is empty"), (STEP, "line 1: it isn't the first line"),
        *[(f"{HEAD}\n{STEP.replace(old, new)}", f"line 2: {told}") for old, new, told in [
            ("128", "true", "'value' of a step isn't of type"), ("128", "-1", "a step has a number below 0"),
            ("size", "most", "a step has no key 'most'"), ('"value": 128', '"data": "0"', "'data' of a step isn't hexa"),
-           ("actor", "who", "it is no step")]],
+           ("action", "act", "it is no step")]],
        (f"{HEAD}\n[]", "line 2: it isn't the line"), (f"{HEAD}\n{END.replace('null', '1')}", "line 2: the fault")]
 REFUSED = [(("none",), "none: No such file"), (("--vcd", "--svg", "log"), "not allowed with"), ((), "required: LOG"),
            (("--rows", "few", "log"), "invalid choice"), (("--from", "1", "log"), "--from and --to are for scenarios"),

@@ -161,7 +161,7 @@ def drawn(server):
     once = [json.loads(find(server, "--runs", "60", "--all", "--seed", seed, "--json",
                             command=["sh", "small", "fails"])[1])["search"]["failed"] for seed in ("1", "1", "2")]
     server.check("drawn: a seed decides", (once[0] == once[1], once[0][0]["seed"], once[0] == once[2]),
-                 (True, 48, True))
+                 (True, 52, True))
     status, out, errors = find(server, command=["sh", "-c", ASK + 'ask "readl 0"; exit 7'])
     server.check("drawn: a test that fails by itself", (status, out.splitlines()[:4], errors),
                  (FOUND, ["without deviations: exit status 7",
