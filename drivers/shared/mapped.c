@@ -28,21 +28,19 @@ static uint32_t offset_of(const volatile void *at)
 
 uint32_t readl(const volatile void *at)
 {
-    uint32_t offset = offset_of(at);
-
-    return offset == EECD ? eecd_read() : offset == SWSM ? semaphores : x_read(offset);
+    if (offset_of(at) == SWSM)
+        return semaphores;
+    return offset_of(at) == EECD ? eecd_read() : x_read(offset_of(at));
 }
 
 void writel(uint32_t value, volatile void *at)
 {
-    uint32_t offset = offset_of(at);
-
-    if (offset == EECD)
+    if (offset_of(at) == EECD)
         eecd_write(value);
-    else if (offset == SWSM)
+    else if (offset_of(at) == SWSM)
         semaphores = value & SWSM_BITS;
     else
-        x_write(offset, value);
+        x_write(offset_of(at), value);
 }
 
 void outl(uint32_t value, unsigned long port)
