@@ -32,7 +32,8 @@ def run(command: list[str], folder: str) -> str:
         raise NoSource(f"{command[0]}: {error}") from error
     if ran.returncode:
         lines = ran.stderr.strip().splitlines() or [f"exit status {ran.returncode}"]
-        raise NoSource(f"{' '.join(command)}: {lines[-1]}")
+        shown = [word for word in command if word != "-o" and "::" not in word]
+        raise NoSource(f"{' '.join(shown)}: {lines[-1]}")
     return ran.stdout
 
 
