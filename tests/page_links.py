@@ -9,7 +9,7 @@ from urllib.parse import unquote
 from harness import TOP, text_of
 
 PAGES = ["README.md", "docs/*.md", "examples/*.md", "examples/*/README.md", "bench/README.md",
-         "crates/*/README.md", "finder/README.md", "drivers/*/*.md"]
+         "crates/*/README.md", "finder/README.md", "drivers/README.md", "drivers/*/*.md"]
 
 
 # Markdown pages

@@ -12,7 +12,8 @@ from .texts import first_sentence
 
 # The pages, by their places in the repository.
 PATTERNS = ["README.md", "CHANGELOG.md", "docs/*.md", "crates/*/README.md", "examples/*.md", "examples/*/README.md",
-            "bench/README.md", "finder/README.md", "machines/README.md", "drivers/*/*.md"]
+            "bench/README.md", "finder/README.md", "machines/README.md", "drivers/README.md",
+            "drivers/*/*.md"]
 EDITS = "docs/EDITS.md"
 # What the first page shows of README: the first paragraph, and from the paragraphs that begin in these ways to the ends
 # of their sections.

@@ -12,13 +12,13 @@ static struct pci_dev pci = {
 void kernel_begin(void)
 {
     kernel_memory_begin();
-    kernel_registers_begin();
+    eeprom_start();
 }
 
 void *pci_ioremap_bar(struct pci_dev *pdev, int bar)
 {
     (void)pdev;
-    return bar == 0 ? KERNEL_REGISTERS : NULL;
+    return bar == 0 ? MAPPED_REGISTERS : NULL;
 }
 
 int pci_select_bars(struct pci_dev *pdev, unsigned long flags)

@@ -68,12 +68,8 @@ int pci_read_config_word(struct pci_dev *pdev, int where, u16 *into);
 #define device_set_wakeup_enable(device, on) ((void)(device))
 #define device_can_wakeup(device) ((device)->can_wake)
 
-/* Registers: the adapter's, and EECD, which it doesn't have. */
-#define KERNEL_REGISTERS ((void *)0x300000000000)
-u32 readl(const volatile void *at);
-void writel(u32 value, volatile void *at);
-/* The window to registers in I/O space: IOADDR and IODATA. */
-void outl(u32 value, unsigned long port);
+/* Registers */
+#include <mapped.h>
 #define readw(at) ((u16)readl(at))
 #define readb(at) ((u8)readl(at))
 #define writew(value, at) writel(value, at)
@@ -82,7 +78,4 @@ void outl(u32 value, unsigned long port);
 #define iowrite16_rep(at, from, count) ((void)(at), (void)(from))
 #define ioremap(at, size) ((void *)0)
 #define iounmap(at) ((void)(at))
-
-/* Of the small kernel: at the start of a test. */
-void kernel_registers_begin(void);
 #endif
