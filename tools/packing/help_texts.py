@@ -38,7 +38,7 @@ class Help:
         found = {}
         for line in table.splitlines():
             left, _, does = line.strip().partition("  ")
-            if left.startswith("-"):
+            if left.startswith("-") and line.startswith(" "):
                 names = re.findall(r"--([\w-]+)(?:[ =]<?([^\s,>]+)>?)?", left)
                 found.update({name: (value, does.strip()) for name, value in names})
                 last = [name for name, _ in names]
