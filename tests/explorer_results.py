@@ -241,7 +241,7 @@ def template(bench):
     shown = re.search(rf"^\$ ./my_test --explore every\n{re.escape(lines[0])}\n(\d+) states, ", page, re.M)
     bench.check("template: every schedule", (status, shown is not None, lines[-1], errors),
                 (PASSES, True, WITHOUT_TOUCH, ""))
-    # a library with run-time checks leaves other bytes on the stack, so it has some more states
+    # with run-time checks in the library, other bytes remain on the stack, so there are some more states
     states = int(lines[1].split()[0])
     bench.check(f"template: {states} states", shown is not None and abs(int(shown[1]) / states - 1) < 0.05, True)
     bench.check("template: README", lines[0][lines[0].index(": none of"):] in readme, True)
